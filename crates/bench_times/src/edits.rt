@@ -1,8 +1,5 @@
 //! Staging many paths at once, and pushing them and sorting.
 
-ghost use Rattle.std.specs.Prelude.{OnOk};
-ghost use Rattle.gix_index.specs.State.{PathsInStorage};
-
 use crate::clock::{self, Clock};
 use crate::tree::AnyName;
 use gix_index::State;
@@ -36,10 +33,7 @@ fn changes_of<'a>(alloc: Global, names: &[&'a [u8]]) -> Result<Vec<Change<'a>>, 
 }
 
 /// Pushes an entry for each name.
-fn push(state: &mut State, names: &[&[u8]]) -> Result<(), AllocError>
-    requires { PathsInStorage state.old }
-    ensures { OnOk result (PathsInStorage state.new) }
-{
+fn push(state: &mut State, names: &[&[u8]]) -> Result<(), AllocError> {
     for &path in names {
         let new = new_entry();
         state.dangerously_push_entry(new.stat, new.id, new.flags, new.mode, path)?;
@@ -48,9 +42,7 @@ fn push(state: &mut State, names: &[&[u8]]) -> Result<(), AllocError>
 }
 
 /// Stages all names.
-fn apply(clock: Clock<'_>, state: &mut State, changes: &[Change<'_>]) -> io::Result<u64>
-    requires { PathsInStorage state.old }
-{
+fn apply(clock: Clock<'_>, state: &mut State, changes: &[Change<'_>]) -> io::Result<u64> {
     let begin = clock::now(clock)?;
     match state.apply(&AnyName, changes) {
         Ok(()) => clock::since(clock, begin),
@@ -59,9 +51,7 @@ fn apply(clock: Clock<'_>, state: &mut State, changes: &[Change<'_>]) -> io::Res
 }
 
 /// Pushes all names, and sorts.
-fn push_and_sort(clock: Clock<'_>, state: &mut State, names: &[&[u8]]) -> io::Result<u64>
-    requires { PathsInStorage state.old }
-{
+fn push_and_sort(clock: Clock<'_>, state: &mut State, names: &[&[u8]]) -> io::Result<u64> {
     let begin = clock::now(clock)?;
     push(state, names)?;
     state.sort_entries()?;
@@ -76,9 +66,7 @@ pub fn run(
     call: &str,
     state: &mut State,
     names: &[&[u8]],
-) -> io::Result<(u64, usize)>
-    requires { PathsInStorage state.old }
-{
+) -> io::Result<(u64, usize)> {
     let nanoseconds = match call {
         "apply" => apply(clock, state, &changes_of(alloc, names)?)?,
         "sort" => push_and_sort(clock, state, names)?,

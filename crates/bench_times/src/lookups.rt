@@ -1,7 +1,5 @@
 //! Looking names up in an index.
 
-ghost use Rattle.gix_index.specs.State.{PathsInStorage};
-
 use crate::clock::{self, Clock};
 use gix_index::{AccelerateLookup, State, count_present};
 use std::alloc::Global;
@@ -45,9 +43,7 @@ impl Found {
 }
 
 /// How many of the names have an entry, are a prefix of one's path, or are a directory.
-fn count_in_state(state: &State, call: &str, names: &[&[u8]]) -> usize
-    requires { PathsInStorage state.now }
-{
+fn count_in_state(state: &State, call: &str, names: &[&[u8]]) -> usize {
     match call {
         "path" => count_present(state, names),
         "entry" => count_entries(state, names),
@@ -57,9 +53,7 @@ fn count_in_state(state: &State, call: &str, names: &[&[u8]]) -> usize
     }
 }
 
-fn count_entries(state: &State, names: &[&[u8]]) -> usize
-    requires { PathsInStorage state.now }
-{
+fn count_entries(state: &State, names: &[&[u8]]) -> usize {
     let mut count = 0usize;
     for name in names {
         if state.entry_by_path(name).is_some() {
@@ -69,9 +63,7 @@ fn count_entries(state: &State, names: &[&[u8]]) -> usize
     count
 }
 
-fn count_ranges(state: &State, names: &[&[u8]]) -> usize
-    requires { PathsInStorage state.now }
-{
+fn count_ranges(state: &State, names: &[&[u8]]) -> usize {
     let mut count = 0usize;
     for name in names {
         if state.entry_range(name).is_some() {
@@ -81,9 +73,7 @@ fn count_ranges(state: &State, names: &[&[u8]]) -> usize
     count
 }
 
-fn count_prefixes(state: &State, names: &[&[u8]]) -> usize
-    requires { PathsInStorage state.now }
-{
+fn count_prefixes(state: &State, names: &[&[u8]]) -> usize {
     let mut count = 0usize;
     for name in names {
         if state.prefixed_entries_range(name).is_some() {
@@ -93,9 +83,7 @@ fn count_prefixes(state: &State, names: &[&[u8]]) -> usize
     count
 }
 
-fn count_directories(state: &State, names: &[&[u8]]) -> usize
-    requires { PathsInStorage state.now }
-{
+fn count_directories(state: &State, names: &[&[u8]]) -> usize {
     let mut count = 0usize;
     for name in names {
         if state.path_is_directory(name) {
@@ -138,9 +126,7 @@ fn run_folded(
     state: &State,
     call: &str,
     names: &[&[u8]],
-) -> io::Result<Found>
-    requires { PathsInStorage state.now }
-{
+) -> io::Result<Found> {
     let mut begin = clock::now(clock)?;
     let lookup = state.prepare_icase_backing(alloc)?;
     if call == "make-folded" {
@@ -168,9 +154,7 @@ fn run_table(
     state: &State,
     call: &str,
     names: &[&[u8]],
-) -> io::Result<Found>
-    requires { PathsInStorage state.now }
-{
+) -> io::Result<Found> {
     if !state.is_ordered_by_path() {
         return Err(io::Error::from(io::ErrorKind::InvalidData));
     }
@@ -193,9 +177,7 @@ pub fn run(
     state: &State,
     call: &str,
     names: &[&[u8]],
-) -> io::Result<Found>
-    requires { PathsInStorage state.now }
-{
+) -> io::Result<Found> {
     match call {
         "load" => Ok(Found::new(0, 0)),
         "path" | "entry" | "range" | "prefix" | "directory" => {

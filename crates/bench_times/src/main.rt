@@ -33,10 +33,6 @@ mod tree;
 mod whole;
 mod writing;
 
-ghost use Rattle.std.specs.Prelude.{IfOk};
-ghost use Rattle.gix_index.specs.File.{state_of};
-ghost use Rattle.gix_index.specs.State.{PathsInStorage};
-
 use clock::Clock;
 use gix_index::entry::FileTime;
 use gix_index::hash::Kind;
@@ -48,9 +44,7 @@ use std::{env, fs, io};
 
 /// The index of these bytes, whose digest isn't looked at. Bytes of no index are
 /// [`InvalidData`](io::ErrorKind::InvalidData).
-fn index_of(alloc: Global, bytes: &[u8]) -> io::Result<File>
-    ensures { IfOk result (λ file. PathsInStorage (state_of file)) }
-{
+fn index_of(alloc: Global, bytes: &[u8]) -> io::Result<File> {
     let path = PathBuf::from_str(alloc, "index")?;
     let options = decode::Options::default();
     match File::decode(

@@ -7,7 +7,6 @@ ghost use Rattle.std.specs.Option.{option_map, unwrap_or};
 ghost use Rattle.gix_index.specs.Object.{absent, object};
 ghost use Rattle.gix_index.specs.ObjectIdOrd.TheImpl as id_order;
 ghost use Rattle.gix_index.specs.ObjectKind.TheVariants.{Tree};
-ghost use Rattle.gix_index.specs.State.{PathsInStorage};
 
 use gix_index::entry::FileTime;
 use gix_index::hash::ObjectId;
@@ -124,9 +123,7 @@ fn trees_of(alloc: Global, bytes: &[u8]) -> anyhow::Result<Trees<'_>> {
 }
 
 /// Prints the entries.
-fn put_entries<W: Write>(out: &mut W, state: &State) -> io::Result<()>
-    requires { PathsInStorage state.now }
-{
+fn put_entries<W: Write>(out: &mut W, state: &State) -> io::Result<()> {
     for entry in state.entries() {
         write!(out, "{:06o} {}\t", entry.mode.bits(), entry.id)?;
         out.write_all(entry.path(state))?;

@@ -1,8 +1,5 @@
 //! Calls on a whole index.
 
-ghost use Rattle.gix_index.specs.File.{state_of};
-ghost use Rattle.gix_index.specs.State.{PathsInStorage};
-
 use crate::clock::{self, Clock};
 use gix_index::entry::FileTime;
 use gix_index::file::System;
@@ -39,27 +36,21 @@ pub fn open(
     }
 }
 
-fn sort(clock: Clock<'_>, state: &mut State) -> io::Result<u64>
-    requires { PathsInStorage state.old }
-{
+fn sort(clock: Clock<'_>, state: &mut State) -> io::Result<u64> {
     let begin = clock::now(clock)?;
     state.sort_entries()?;
     clock::since(clock, begin)
 }
 
 /// Takes each second entry out.
-fn remove(clock: Clock<'_>, state: &mut State) -> io::Result<u64>
-    requires { PathsInStorage state.old }
-{
+fn remove(clock: Clock<'_>, state: &mut State) -> io::Result<u64> {
     let begin = clock::now(clock)?;
     state.remove_entries(|place, _, _| place % 2 == 1);
     clock::since(clock, begin)
 }
 
 /// Looks whether the entries are in order; any answer will do.
-fn verify(clock: Clock<'_>, state: &State) -> io::Result<u64>
-    requires { PathsInStorage state.now }
-{
+fn verify(clock: Clock<'_>, state: &State) -> io::Result<u64> {
     let begin = clock::now(clock)?;
     let _ = state.verify_entries();
     clock::since(clock, begin)
@@ -73,9 +64,7 @@ fn copy(clock: Clock<'_>, state: &State) -> io::Result<u64> {
 
 /// Makes a call on all entries, and gives the nanoseconds of processor time that it took and how many entries there are
 /// then. Another word is [`InvalidInput`](io::ErrorKind::InvalidInput).
-pub fn run(clock: Clock<'_>, call: &str, state: &mut State) -> io::Result<(u64, usize)>
-    requires { PathsInStorage state.old }
-{
+pub fn run(clock: Clock<'_>, call: &str, state: &mut State) -> io::Result<(u64, usize)> {
     let nanoseconds = match call {
         "sort" => sort(clock, state)?,
         "remove" => remove(clock, state)?,

@@ -1,8 +1,5 @@
 //! Writing an index to memory.
 
-ghost use Rattle.gix_index.specs.File.{state_of};
-ghost use Rattle.gix_index.specs.State.{PathsInStorage};
-
 use crate::clock::{self, Clock};
 use gix_index::hash::io::Plain;
 use gix_index::{File, write};
@@ -18,9 +15,7 @@ pub fn written(
     file: &File,
     room: usize,
     skip_hash: bool,
-) -> io::Result<(u64, Vec<u8>)>
-    requires { PathsInStorage (state_of file.now) }
-{
+) -> io::Result<(u64, Vec<u8>)> {
     let options = write::Options {
         skip_hash,
         ..write::Options::default()

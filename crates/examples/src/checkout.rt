@@ -3,11 +3,11 @@
 //! INDEX is an index of SHA-1. Its paths below the directory are printed, each on a line, as
 //! `git ls-files -- DIRECTORY/` prints plain ones.
 
-ghost use Rattle.std.specs.Prelude.{◌≡◌, All, IfOk, filter, length};
+ghost use Rattle.std.specs.Prelude.{◌≡◌, IfOk, filter};
 ghost use Rattle.gix_index.specs.Closest.{is_below};
 ghost use Rattle.gix_index.specs.Order.{IsOrderedByPath};
-ghost use Rattle.gix_index.specs.Record.{IsPlaced, records_in};
-ghost use Rattle.gix_index.specs.State.{PathsInStorage, records, storage_of};
+ghost use Rattle.gix_index.specs.Record.{records_in};
+ghost use Rattle.gix_index.specs.State.{records, storage_of};
 
 use gix_index::entry::FileTime;
 use gix_index::hash::Kind;
@@ -24,12 +24,9 @@ fn entries_below<'a>(
     state: &'a State,
     directory: &[u8],
 ) -> Result<&'a [Entry], AllocError>
-    requires placed { PathsInStorage state.now }
-    requires ordered { IsOrderedByPath (records state.now) }
-    ensures exactly { IfOk result (λ entries. records_in (storage_of state.now) entries.now
+    ensures { IsOrderedByPath (records state.now) → IfOk result
+        (λ entries. records_in (storage_of state.now) entries.now
         ≡ filter (is_below directory.now) (records state.now)) }
-    ensures placed { IfOk result
-        (λ entries. All (IsPlaced (length (storage_of state.now))) entries.now) }
 {
     let mut prefix = Vec::from_slice(alloc, directory)?;
     prefix.push(b'/')?;
@@ -42,10 +39,7 @@ fn print_below<W: Write>(
     out: &mut W,
     state: &State,
     directory: &str,
-) -> anyhow::Result<()>
-    requires placed { PathsInStorage state.now }
-    requires ordered { IsOrderedByPath (records state.now) }
-{
+) -> anyhow::Result<()> {
     for entry in entries_below(alloc, state, directory.as_bytes())? {
         out.write_all(entry.path(state))?;
         out.write_all(b"\n")?;

@@ -26,10 +26,9 @@ struct Side {
 
 /// Puts one side at the end, at a stage.
 fn push_side(state: &mut State, path: &[u8], stage: Stage, side: Side) -> Result<(), AllocError>
-    requires { PathsInStorage state.old }
-    ensures pushed { OnOk result (records state.new
+    ensures pushed { OnOk result (PathsInStorage state.old → records state.new
         ≡ records state.old ++ stage_of path.now (stage_code stage) side ∷ []) }
-    ensures placed { OnOk result (PathsInStorage state.new) }
+    ensures placed { OnOk result (PathsInStorage state.old → PathsInStorage state.new) }
 {
     let Side { mode, id, stat } = side;
     state.dangerously_push_entry(stat, id, Flags::from_stage(stage), mode, path)
@@ -44,12 +43,10 @@ fn put_in_conflict(
     ours: Side,
     theirs: Side,
 ) -> Result<(), AllocError>
-    requires { PathsInStorage state.old }
     ensures ordered { OnOk result (IsOrdered (records state.new)) }
-    ensures exactly { OnOk result
+    ensures exactly { PathsInStorage state.old → OnOk result
         (IsPermutation (elsewhere path.now (records state.old) ++ stages path.now base ours theirs)
         (records state.new)) }
-    ensures placed { OnOk result (PathsInStorage state.new) }
 {
     state.remove_entries(|_place, it, _entry| it == path);
     push_side(state, path, Stage::Base, base)?;
@@ -67,9 +64,7 @@ fn index_at(rt: &HostRuntime, alloc: Global, path: &str) -> anyhow::Result<State
 }
 
 /// What an index has at a path that isn't in conflict.
-fn side_in(state: &State, path: &[u8]) -> anyhow::Result<Side>
-    requires { PathsInStorage state.now }
-{
+fn side_in(state: &State, path: &[u8]) -> anyhow::Result<Side> {
     let entry = state.entry_by_path_and_stage(path, Stage::Unconflicted);
     let entry = entry.ok_or(anyhow::Error::msg("a side lacks the path"))?;
     let (mode, id, stat) = (entry.mode, entry.id, Stat::default());
@@ -77,9 +72,7 @@ fn side_in(state: &State, path: &[u8]) -> anyhow::Result<Side>
 }
 
 /// Prints the entries.
-fn print<W: Write>(out: &mut W, state: &State) -> io::Result<()>
-    requires { PathsInStorage state.now }
-{
+fn print<W: Write>(out: &mut W, state: &State) -> io::Result<()> {
     for entry in state.entries() {
         let (mode, stage) = (entry.mode.bits(), entry.stage_raw());
         write!(out, "{mode:06o} {} {stage}\t", entry.id)?;

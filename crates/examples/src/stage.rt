@@ -6,7 +6,6 @@
 
 ghost use Rattle.std.specs.Prelude.{◌≡◌, OnErr, OnOk};
 ghost use Rattle.gix_index.specs.Edits.{IsUnchanged};
-ghost use Rattle.gix_index.specs.State.{PathsInStorage};
 
 use gix_index::change::{ApplyError, Change};
 use gix_index::decode::entry::Pathless;
@@ -38,9 +37,7 @@ impl ComponentCheck for PlainNames {
 
 /// Stages a file, in place of what stands at its path.
 fn stage(state: &mut State, id: ObjectId, path: &[u8]) -> Result<(), ApplyError>
-    requires { PathsInStorage state.old }
-    ensures placed { PathsInStorage state.new }
-    ensures err { OnErr result (IsUnchanged state.old state.new) }
+    ensures { OnErr result (IsUnchanged state.old state.new) }
 {
     let (stat, mode) = (Stat::default(), Mode::FILE);
     let flags = Flags::from_stage(Stage::Unconflicted);

@@ -6,7 +6,7 @@
 //! young as the index.
 
 ghost use Rattle.std.specs.Prelude.{◌≡◌, IfOk, filter, map};
-ghost use Rattle.gix_index.specs.State.{PathsInStorage, contents, records};
+ghost use Rattle.gix_index.specs.State.{contents, records};
 ghost use Rattle.examples.specs.Changed.{may_differ, may_have_changed, stat_seen};
 
 use gix_index::entry::stat::{Options, Time};
@@ -43,7 +43,6 @@ fn changed_paths<'a>(
     seen: &BTreeMap<&'a [u8], Stat>,
     options: Options,
 ) -> Result<Vec<&'a [u8]>, AllocError>
-    requires { PathsInStorage state.now }
     ensures { IfOk result (λ paths. map (λ p. p.now) paths.items
         ≡ map (λ r. r.path) (filter
         (may_have_changed options (contents state.now).time seen.now) (records state.now))) }

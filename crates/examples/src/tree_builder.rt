@@ -6,7 +6,7 @@
 
 ghost use Rattle.std.specs.Prelude.{◌≡◌, IfErr, IfOk, IsPermutation, None, map};
 ghost use Rattle.gix_index.specs.Order.{IsStrictlyOrdered};
-ghost use Rattle.gix_index.specs.State.{PathsInStorage, records};
+ghost use Rattle.gix_index.specs.State.{records};
 ghost use Rattle.examples.specs.Listed.{SaysTwice, record_of};
 
 use gix_index::entry::{FileTime, Flags, Mode, Stage, Stat};
@@ -32,8 +32,7 @@ struct Listed<'a> {
 
 /// The files as entries, in the order in which they are listed.
 fn unsorted(alloc: Global, kind: Kind, files: &[Listed<'_>]) -> Result<State, AllocError>
-    ensures entries { IfOk result (λ state. records state ≡ map record_of files.now) }
-    ensures placed { IfOk result PathsInStorage }
+    ensures { IfOk result (λ state. records state ≡ map record_of files.now) }
 {
     let mut state = State::new(alloc, kind, FileTime::EPOCH);
     for file in files {
@@ -49,7 +48,6 @@ fn index_of(alloc: Global, kind: Kind, files: &[Listed<'_>]) -> Result<State, en
     ensures ordered { IfOk result (λ state. IsStrictlyOrdered (records state)) }
     ensures exactly { IfOk result
         (λ state. IsPermutation (map record_of files.now) (records state)) }
-    ensures placed { IfOk result PathsInStorage }
     ensures twice { IfErr result (SaysTwice files.now) }
 {
     let mut state = unsorted(alloc, kind, files)?;

@@ -3,6 +3,7 @@
 pub use Rattle.index_search.specs.Digits
 pub use Rattle.index_lookups.specs.FilterMap
 pub use Rattle.index_lookups.specs.Folded
+pub use Rattle.index_lookups.specs.Searches
 pub use Rattle.index_lookups.specs.Tables
 pub use Rattle.index_state.specs.StateSearches
 pub use Rattle.index_lookups.specs.declared.folded.AccelerateLookup

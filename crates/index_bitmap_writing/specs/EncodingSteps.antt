@@ -1,6 +1,7 @@
 -- What the encoder of a bitmap finds at a place among words (git's bitmap-format document, "Serialization format for an
 -- EWAH bitmap"). Public clauses cite none of these.
-use Rattle.std.specs.Prelude.{◌≡◌, ◌≢◌, ◌⊎◌, ℕ, ◌+◌, ◌-◌, ◌^◌, List, [], ◌∷◌, length, take, drop}
+use Rattle.std.specs.Prelude.{◌≡◌, ◌≢◌, ◌⊎◌, ℕ, ◌+◌, ◌-◌, ◌^◌, ◌≤◌, List, [], ◌∷◌, ◌++◌, All, length, take, drop}
+use Rattle.std.specs.Prelude.{replicate}
 use Rattle.index_bitmap_writing.specs.EncodedBitmap.{Marked}
 use Rattle.index_bitmap_writing.specs.declared.encoding.Chunk.{Chunk}
 
@@ -21,6 +22,20 @@ EndsLiterals (word ∷ words) = (word ≡ 0) ⊎ (word ≡ 2 ^ 64 - 1)
 -- the words from a place up to another
 abbrev pub words_between : ℕ → ℕ → List ℕ → List ℕ
 words_between first end words = take (end - first) (drop first words)
+
+-- from a place up to another all words are this one, and no more behind them
+pub record IsRun (word first end : ℕ) (words : List ℕ) : Type 0 where
+  pub run : drop first words ≡ replicate (end - first) word ++ drop end words
+  pub ends : EndsRun word (drop end words)
+  pub behind : first ≤ end
+  pub inside : first ≤ length words → end ≤ length words
+
+-- from a place up to another all words are literal, and no more behind them
+pub record AreLiterals (first end : ℕ) (words : List ℕ) : Type 0 where
+  pub literal : All IsLiteral (words_between first end words)
+  pub ends : EndsLiterals (drop end words)
+  pub behind : first ≤ end
+  pub inside : first ≤ length words → end ≤ length words
 
 -- a run and its literal words, which stand among these words
 abbrev pub marked_at : List ℕ → Chunk → Marked

@@ -1,13 +1,13 @@
 //! Writing a bitmap that is made of words, in the form that git's encoder gives it (git's bitmap-format document,
 //! "Serialization format for an EWAH bitmap").
 
-ghost use Rattle.std.specs.Prelude.{◌≡◌, ◌++◌, ◌+◌, ◌-◌, ◌*◌, ◌^◌, ◌<◌, ◌≤◌, ℕ, List, ◌∷◌, All, false};
-ghost use Rattle.std.specs.Prelude.{drop, length, replicate};
+ghost use Rattle.std.specs.Prelude.{◌≡◌, ◌+◌, ◌-◌, ◌*◌, ◌^◌, ◌<◌, ◌≤◌, ℕ, List, ◌∷◌};
+ghost use Rattle.std.specs.Prelude.{drop, length};
 ghost use Rattle.std.specs.List.{flat_map};
 ghost use Rattle.index_parts.specs.Puts.{Puts};
 ghost use Rattle.index_bitmap_writing.specs.BitmapImage.{be64, bitmap_bytes, last_run};
 ghost use Rattle.index_bitmap_writing.specs.EncodedBitmap.{bitmap_of_words, encoded_words, marked, marked_words};
-ghost use Rattle.index_bitmap_writing.specs.EncodingSteps.{EndsLiterals, EndsRun, IsLiteral, last_behind};
+ghost use Rattle.index_bitmap_writing.specs.EncodingSteps.{AreLiterals, IsRun, last_behind};
 ghost use Rattle.index_bitmap_writing.specs.EncodingSteps.{marked_at, words_between};
 
 use crate::ewah::{WORD_LEN, WORDLESS_LEN};
@@ -55,12 +55,7 @@ const FIRST_LITERAL: u64 = 1 << 33;
 
 /// The place behind the words from a place on that are this one.
 fn run_end<B: Words>(bits: &B, place: usize, word: u64) -> usize
-    requires { place ≤ length (B.words bits.now) }
-    ensures run { drop place (B.words bits.now)
-        ≡ replicate (result - place) word ++ drop result (B.words bits.now) }
-    ensures ends { EndsRun word (drop result (B.words bits.now)) }
-    ensures behind { place ≤ result }
-    ensures inside { result ≤ length (B.words bits.now) }
+    ensures { IsRun word place result (B.words bits.now) }
 {
     let count = bits.count();
     let mut end = place;
@@ -75,11 +70,7 @@ fn run_end<B: Words>(bits: &B, place: usize, word: u64) -> usize
 
 /// The place behind the literal words from a place on.
 fn literals_end<B: Words>(bits: &B, place: usize) -> usize
-    requires { place ≤ length (B.words bits.now) }
-    ensures literal { All IsLiteral (words_between place result (B.words bits.now)) }
-    ensures ends { EndsLiterals (drop result (B.words bits.now)) }
-    ensures behind { place ≤ result }
-    ensures inside { result ≤ length (B.words bits.now) }
+    ensures { AreLiterals place result (B.words bits.now) }
 {
     let count = bits.count();
     let mut end = place;
@@ -158,7 +149,6 @@ fn form_of<B: Words>(bits: &B) -> Form
 fn put_literals<B: Words, W: Out>(bits: &B, first: usize, end: usize, out: &mut W) -> io::Result<()>
     requires order { first ≤ end }
     requires inside { end ≤ length (B.words bits.now) }
-    requires unfailed { W.failed out.old ≡ false }
     ensures { Puts W.Out out.old out.new result
         (flat_map be64 (words_between first end (B.words bits.now))) }
 {
@@ -175,7 +165,6 @@ fn put_chunk<B: Words, W: Out>(bits: &B, chunk: Chunk, out: &mut W) -> io::Resul
     requires order { chunk.literals ≤ chunk.end }
     requires inside { chunk.end ≤ length (B.words bits.now) }
     requires small { length (B.words bits.now) < 2 ^ 30 }
-    requires unfailed { W.failed out.old ≡ false }
     ensures { Puts W.Out out.old out.new result
         (flat_map be64 (marked_words (marked_at (B.words bits.now) chunk))) }
 {
@@ -189,7 +178,6 @@ fn put_chunk<B: Words, W: Out>(bits: &B, chunk: Chunk, out: &mut W) -> io::Resul
 
 /// Writes runs, each with the literal words behind it.
 fn put_chunks<B: Words, W: Out>(bits: &B, out: &mut W) -> io::Result<()>
-    requires { W.failed out.old ≡ false }
     ensures { Puts W.Out out.old out.new result
         (flat_map be64 (flat_map marked_words (marked (B.words bits.now)))) }
 {
@@ -205,7 +193,6 @@ fn put_chunks<B: Words, W: Out>(bits: &B, out: &mut W) -> io::Result<()>
 
 /// Writes the words of the compressed form.
 fn put_words<B: Words, W: Out>(bits: &B, out: &mut W) -> io::Result<()>
-    requires { W.failed out.old ≡ false }
     ensures { Puts W.Out out.old out.new result
         (flat_map be64 (encoded_words (B.words bits.now))) }
 {
@@ -228,7 +215,6 @@ pub fn content_len<B: Words>(bits: &B) -> u64
 ///
 /// An error comes only where the writer failed, which then took a prefix of the bytes. No memory is taken.
 pub fn put<B: Words, W: Out>(num_bits: u32, bits: &B, out: &mut W) -> io::Result<()>
-    requires { W.failed out.old ≡ false }
     ensures written { Puts W.Out out.old out.new result
         (bitmap_bytes (bitmap_of_words num_bits (B.words bits.now))) }
 {

@@ -1,10 +1,9 @@
 //! Writing a bitmap (git's bitmap-format document, "Serialization format for an EWAH bitmap").
 
-ghost use Rattle.std.specs.Prelude.{◌≡◌, ◌++◌, ◌+◌, ◌*◌, ◌^◌, ◌<◌, false, length};
+ghost use Rattle.std.specs.Prelude.{◌≡◌, ◌+◌, ◌*◌, ◌^◌, ◌<◌, length};
 ghost use Rattle.std.specs.List.{flat_map};
 ghost use Rattle.index_cached_tree.specs.TreeWriting.{within_32};
 ghost use Rattle.index_bitmaps.specs.Bitmap.{bitmap};
-ghost use Rattle.index_parts.specs.Numbers.{be32};
 ghost use Rattle.index_parts.specs.Puts.{Puts};
 ghost use Rattle.index_bitmap_writing.specs.BitmapImage.{be64, bitmap_bytes, last_run, lent_bitmap};
 
@@ -44,7 +43,6 @@ const LITERALS_SHIFT: u32 = 33;
 
 /// Writes words.
 fn put_words<W: Out>(words: &[u64], out: &mut W) -> io::Result<()>
-    requires { W.failed out.old ≡ false }
     ensures { Puts W.Out out.old out.new result (flat_map be64 words.now) }
 {
     for word in words {
@@ -72,28 +70,6 @@ fn last_run(words: &[u64]) -> u32
     place
 }
 
-/// Writes words, and the position of the last run word.
-fn put_behind_numbers<W: Out>(words: &[u64], out: &mut W) -> io::Result<()>
-    requires count { length words.now < 2 ^ 32 }
-    requires unfailed { W.failed out.old ≡ false }
-    ensures { Puts W.Out out.old out.new result
-        (flat_map be64 words.now ++ be32 (last_run words.now)) }
-{
-    put_words(words, out)?;
-    put_number(last_run(words), out)
-}
-
-/// Writes the number of words, and what stands behind it.
-fn put_behind_bits<W: Out>(words: &[u64], out: &mut W) -> io::Result<()>
-    requires count { length words.now < 2 ^ 32 }
-    requires unfailed { W.failed out.old ≡ false }
-    ensures { Puts W.Out out.old out.new result
-        (be32 (length words.now) ++ (flat_map be64 words.now ++ be32 (last_run words.now))) }
-{
-    put_number(words.len() as u32, out)?;
-    put_behind_numbers(words, out)
-}
-
 /// How many bytes a bitmap has; None where it has more than 2^32 - 1. It takes no memory.
 pub fn content_len(bitmap: LentVec<'_>) -> Option<u32>
     ensures { result ≡ within_32 (length (bitmap_bytes (lent_bitmap bitmap.entry))) }
@@ -115,10 +91,12 @@ pub fn content_len(bitmap: LentVec<'_>) -> Option<u32>
 /// An error comes only where the writer failed, which then took a prefix of the bytes. No memory is taken.
 pub fn put<W: Out>(bitmap: LentVec<'_>, out: &mut W) -> io::Result<()>
     requires count { length bitmap.words.now < 2 ^ 32 }
-    requires unfailed { W.failed out.old ≡ false }
     ensures written { Puts W.Out out.old out.new result
         (bitmap_bytes (lent_bitmap bitmap.entry)) }
 {
+    let words = bitmap.words;
     put_number(bitmap.num_bits, out)?;
-    put_behind_bits(bitmap.words, out)
+    put_number(words.len() as u32, out)?;
+    put_words(words, out)?;
+    put_number(last_run(words), out)
 }

@@ -1,6 +1,6 @@
 //! Laws of the bytes that are written: they are read as the bitmaps that they are made of. A law computes nothing.
 
-ghost use Rattle.std.specs.Prelude.{◌≡◌, ◌<◌, ◌≤◌, ◌^◌, ◌++◌, ℕ, Bool, List, All, Ok, length, map};
+ghost use Rattle.std.specs.Prelude.{◌<◌, ◌≤◌, ◌^◌, ◌++◌, ℕ, Bool, List, All, Ok, length, map};
 ghost use Rattle.index_bitmaps.specs.Bitmap.{Bitmap, IsBitmap};
 ghost use Rattle.index_bitmaps.specs.Bits.{ListPlaces};
 ghost use Rattle.index_bitmap_writing.specs.BitmapImage.{bitmap_bytes, IsSpellableBitmap};

@@ -1,6 +1,6 @@
 //! Bitmaps of the items of a list that are marked.
 
-ghost use Rattle.std.specs.Prelude.{◌≡◌, ◌+◌, ◌*◌, ◌^◌, ◌<◌, ◌≤◌, ℕ, Bool, List, ◌∷◌, IfOk, drop, false, length, map};
+ghost use Rattle.std.specs.Prelude.{◌≡◌, ◌+◌, ◌*◌, ◌^◌, ◌<◌, ◌≤◌, Bool, IfOk, length, map};
 ghost use Rattle.index_bitmaps.specs.Bitmap.{bitmap};
 ghost use Rattle.index_bitmap_writing.specs.BitmapImage.{bitmap_bytes};
 ghost use Rattle.index_bitmap_writing.specs.EncodedBitmap.{encoded, up_to_last, word_of, words_of};
@@ -126,7 +126,6 @@ pub fn content_len<T, M: Marker<T>>(items: &[T], marker: M) -> u64
 /// An error comes only where the writer failed, which then took a prefix of the bytes. No memory is taken.
 pub fn put<T, M: Marker<T>, W: Out>(items: &[T], marker: M, out: &mut W) -> io::Result<()>
     requires few { length items.now < 2 ^ 32 }
-    requires unfailed { W.failed out.old ≡ false }
     ensures written { Puts W.Out out.old out.new result
         (bitmap_bytes (encoded (map (M.is_marked marker) items.now))) }
 {

@@ -1,7 +1,6 @@
 //! Numbers, texts, and the head of an extension.
 
-ghost use Rattle.std.specs.Prelude.{◌≡◌, ◌++◌, [], ◌∷◌, false};
-ghost use Rattle.std.specs.List.{flat_map};
+ghost use Rattle.std.specs.Prelude.{◌≡◌, ◌++◌, [], ◌∷◌};
 ghost use Rattle.index_parts.specs.Numbers.{be32};
 ghost use Rattle.index_parts.specs.Puts.{Puts};
 ghost use Rattle.index_bitmap_writing.specs.BitmapImage.{be64};
@@ -12,7 +11,6 @@ use std::io;
 
 /// Writes a number of four bytes.
 pub fn put_number<W: Out>(n: u32, out: &mut W) -> io::Result<()>
-    requires { W.failed out.old ≡ false }
     ensures { Puts W.Out out.old out.new result (be32 n) }
 {
     out.put(&n.to_be_bytes())
@@ -20,7 +18,6 @@ pub fn put_number<W: Out>(n: u32, out: &mut W) -> io::Result<()>
 
 /// Writes a number of eight bytes.
 pub fn put_word<W: Out>(word: u64, out: &mut W) -> io::Result<()>
-    requires { W.failed out.old ≡ false }
     ensures { Puts W.Out out.old out.new result (be64 word) }
 {
     out.put(&word.to_be_bytes())
@@ -28,17 +25,9 @@ pub fn put_word<W: Out>(word: u64, out: &mut W) -> io::Result<()>
 
 /// Writes a text and a NUL.
 pub fn put_text<W: Out>(text: &[u8], out: &mut W) -> io::Result<()>
-    requires { W.failed out.old ≡ false }
     ensures { Puts W.Out out.old out.new result (text.now ++ 0 ∷ []) }
 {
-    out.put_each(&two(text, b"\0"))
-}
-
-/// Two pieces.
-fn two<'a>(a: &'a [u8], b: &'a [u8]) -> [&'a [u8]; 2]
-    ensures { flat_map (λ p. p.now) result ≡ a.now ++ b.now }
-{
-    [a, b]
+    out.put_each(&[text, b"\0"])
 }
 
 /// The eight bytes before the content of an extension.
@@ -52,7 +41,6 @@ fn head(signature: Signature, len: u32) -> [u8; 8]
 
 /// Writes what stands before the content of an extension: its signature, and the length of the content.
 pub fn put_head<W: Out>(signature: Signature, len: u32, out: &mut W) -> io::Result<()>
-    requires { W.failed out.old ≡ false }
     ensures { Puts W.Out out.old out.new result (signature ++ be32 len) }
 {
     out.put(&head(signature, len))

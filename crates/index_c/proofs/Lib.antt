@@ -4,6 +4,7 @@ mod Finds
 mod FoldedPlaces
 mod Giving
 mod Prefixes
+mod RowsAt
 mod Tellings
 mod Updates
 mod Writings

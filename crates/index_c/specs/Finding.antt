@@ -2,7 +2,6 @@
 use Rattle.std.specs.Prelude.{◌≡◌, ◌≢◌, ℕ, ◌≤◌, ◌<◌, ◌⊎◌, nat_eq, nat_lt, Bool, true, false, List, length, map, position}
 use Rattle.std.specs.Prelude.{Option, Some, None, IfSome, if◌then◌else◌}
 use Rattle.std.specs.List.{HoldsAt}
-use Rattle.std.specs.declared.cmp.Ordering.{Ordering}
 use Rattle.std.specs.declared.ops.Range.{Range}
 use Rattle.gix_index.specs.Closest.{closest, is_itself, stands_in}
 use Rattle.gix_index.specs.Lookup.{IsKeyAt, insertion_of, place_of}
@@ -13,7 +12,6 @@ use Rattle.gix_index.specs.Searching.Folded.{folded_closest}
 use Rattle.index_c.specs.declared.prefix.Places.{Places}
 use Rattle.index_numbers.specs.declared.status.TheConstants.{DONE, NONE}
 use Rattle.index_search.specs.Halving.{IsPartedAt}
-use Rattle.index_search.specs.Prefix.{prefix_cmp}
 use Rattle.index_table.specs.Table.{records_of}
 use Rattle.index_table.specs.declared.row.Row.{Row}
 
@@ -22,10 +20,6 @@ use Rattle.index_table.specs.declared.row.Row.{Row}
 -- this is what comes of the record that the row at a place spells
 abbrev pub RowGives : {A : Type 0} → (Record → A) → List ℕ → List Row → ℕ → A → Type 0
 RowGives f paths rows place a = HoldsAt (λ r. f r ≡ a) (records_of paths rows) place
-
--- where a record stands to a prefix by its path: equal where this begins with it
-abbrev pub record_prefix_cmp : List ℕ → Record → Ordering
-record_prefix_cmp prefix r = prefix_cmp prefix r.path
 
 -- there is a row at the place, and the record that it spells passes a test
 abbrev pub HasPassing : (Record → Bool) → List ℕ → List Row → ℕ → Type 0

@@ -20,27 +20,29 @@ use Rattle.index_table.specs.declared.row.Row.{Row}
 
 -- What is answered where a value is to be read into a table: with DONE the table has it, and with NO_ROOM it is too
 -- small for it; the summary tells of the value. With each status but DONE the table is as it was. With WRONG_NUMBER
--- nothing is told.
+-- nothing is told. The room for a text was written to in its first bytes alone.
 pub record ReadsWith (number : ℕ) (Read : Kind → (Contents → Type 0) → Type 0) (Refused Lacks : Kind → Type 0)
-    (s : Summary) (old new : List Row) (before after : List ℕ) (status : ℕ) : Type 0 where
+    (s : Summary) (old new : List Row) (before after room said : List ℕ) (status : ℕ) : Type 0 where
   pub says : SaysForKind number (λ k. Read k (IsToldWith s (λ v. Fills v old new before after))) Refused Lacks
       (λ k. Read k (IsToldWith s (λ v. IsTooSmall v old before))) status
   pub untold : status ≡ WRONG_NUMBER → s ≡ blank
   pub rows : status ≢ DONE → new ≡ old
   pub paths : status ≢ DONE → after ≡ before
+  pub text : HasText s.text_bytes room said
 
 -- of what these bytes are read as
-abbrev pub ReadsTable : ℕ → Bool → List ℕ → Summary → List Row → List Row → List ℕ → List ℕ → ℕ → Type 0
-ReadsTable number skip bytes s old new before after status =
-    ReadsWith number (λ k. IsReadSo skip k bytes) (λ k. IsRefusedIndex skip k bytes s) (λ k. IsUnread skip k bytes
-    s) s
-    old new before after status
+abbrev pub ReadsTable : ℕ → Bool → List ℕ → Summary → List Row → List Row → (before after room said : List ℕ) → ℕ
+    → Type 0
+ReadsTable number skip bytes s old new before after room said status =
+    ReadsWith number (λ k. IsReadSo skip k bytes) (λ k. IsRefusedIndex skip k bytes s) (λ k. IsUnread skip k bytes s) s
+    old new before after room said status
 
 -- of what they are read as with those of the shared index
-abbrev pub ReadsSplit : ℕ → Bool → List ℕ → List ℕ → Summary → List Row → List Row → List ℕ → List ℕ → ℕ → Type 0
-ReadsSplit number skip bytes shared s old new before after status =
+abbrev pub ReadsSplit : ℕ → Bool → List ℕ → List ℕ → Summary → List Row → List Row
+    → (before after room said : List ℕ) → ℕ → Type 0
+ReadsSplit number skip bytes shared s old new before after room said status =
     ReadsWith number (λ k. AreReadSo skip k bytes shared) (λ k. AreRefusedBoth skip k bytes shared s)
-    (λ k. LackMemory skip k bytes shared s) s old new before after status
+    (λ k. LackMemory skip k bytes shared s) s old new before after room said status
 
 -- ---- checking
 

@@ -114,6 +114,17 @@ pub record TellsWritten (most : ℕ) (Told : ℕ → Written → Type 0) (status
   pub told : Told status said
   pub blank : LeavesBlank status said
 
+-- the same, and of no cached tree
+pub record TellsNoTree (most : ℕ) (Told : ℕ → Written → Type 0) (status : ℕ) (said : Written) : Type 0 where
+  pub written : TellsWritten most Told status said
+  pub tree : said.tree ≡ NO_TREE
+
+-- a number of the caller's is none, and nothing else is told
+pub record TellsWrongNumber (status : ℕ) (said : Written) : Type 0 where
+  pub status_is : status ≡ WRONG_NUMBER
+  pub tree : said.tree ≡ NO_TREE
+  pub blank : LeavesBlank status said
+
 -- what comes of writing a table is told so
 abbrev pub Tells : Result Image Unwritten → CachedTree → ℕ → Written → Type 0
 Tells (Ok image) tree status told = (status ≡ DONE) × (told ≡ image_told image tree)

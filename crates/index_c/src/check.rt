@@ -1,7 +1,7 @@
 //! Checking that an index is in order and that its cached tree holds together, with its shared index or without.
 
 ghost use Rattle.std.specs.Prelude.{◌≡◌};
-ghost use Rattle.gix_index.specs.State.{PathsInStorage, contents};
+ghost use Rattle.gix_index.specs.State.{contents};
 ghost use Rattle.index_c.specs.Checking.{IsFound, IsJudged, TellsCheck, TellsFlaw, flaw_number, flaw_place, order_place, tree_place};
 ghost use Rattle.index_c.specs.Reads.{ChecksIndex, ChecksSplit, FindsOfBoth, FindsOfIndex};
 ghost use Rattle.index_numbers.specs.Statuses.{TellsSummary};
@@ -91,7 +91,6 @@ fn put_flaw(alloc: Global, flaw: &Flaw, text: &mut [u8]) -> usize
 
 /// Whether a state is sound, and else why not.
 fn judge(alloc: Global, state: &State) -> Result<(), Flaw>
-    requires { PathsInStorage state.now }
     ensures { IsJudged result (contents state.now) }
 {
     if let Err(e) = state.verify_entries() {
@@ -105,7 +104,6 @@ fn judge(alloc: Global, state: &State) -> Result<(), Flaw>
 
 /// What a check finds of a state.
 fn found_of(alloc: Global, state: &State) -> Found
-    requires { PathsInStorage state.now }
     ensures { IsFound result (contents state.now) }
 {
     Found {

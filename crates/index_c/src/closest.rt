@@ -1,7 +1,7 @@
 //! Searches among the rows of a table for a directory.
 
-ghost use Rattle.std.specs.Prelude.{◌<◌, ℕ, List, length};
-ghost use Rattle.gix_index.specs.Closest.{is_below, is_directory};
+ghost use Rattle.std.specs.Prelude.{◌≡◌, ◌<◌, length};
+ghost use Rattle.gix_index.specs.Closest.{is_below, is_directory_mode};
 ghost use Rattle.gix_index.specs.Range.{is_at};
 ghost use Rattle.index_c.specs.Finding.{FindsClosestRow, FindsFirst, FindsItself, RowGives, TellsClosest};
 
@@ -18,12 +18,10 @@ fn has_path(rows: &[Row], paths: &[u8], place: usize, path: &[u8]) -> bool
     path_of(&row, paths) == path
 }
 
-/// Whether the row at a place stands for a directory: a sparse one, or a submodule.
-fn is_directory(rows: &[Row], place: usize) -> bool
-    requires { place < length rows.now }
-    ensures { (paths : List ℕ) → RowGives is_directory paths rows.now place result }
+/// Whether a row of this mode stands for a directory: a sparse one, or a submodule.
+fn is_directory(mode: u32) -> bool
+    ensures { result ≡ is_directory_mode mode }
 {
-    let mode = rows[place].mode;
     mode == 0o040000 || mode == 0o160000
 }
 
@@ -35,7 +33,7 @@ fn first_itself(rows: &[Row], paths: &[u8], directory: &[u8], low: usize) -> Opt
         if !has_path(rows, paths, place, directory) {
             return None;
         }
-        if is_directory(rows, place) {
+        if is_directory(rows[place].mode) {
             return Some(place);
         }
     }

@@ -1,21 +1,19 @@
 //! Searches among the rows of a table.
 
-ghost use Rattle.std.specs.Prelude.{◌<◌, length, map};
+ghost use Rattle.std.specs.Prelude.{◌≡◌, map};
 ghost use Rattle.gix_index.specs.Order.{key_cmp};
-ghost use Rattle.index_c.specs.Finding.{RowGives, TellsBound, TellsKey};
-ghost use Rattle.index_table.specs.Table.{records_of};
+ghost use Rattle.index_c.specs.Finding.{TellsBound, TellsKey};
+ghost use Rattle.index_table.specs.Table.{records_of, spelled};
 
 use index_search::ordered::{Ordered, part, search_within};
 use index_table::row::{Row, path_of, stage_of};
 use std::cmp::Ordering;
 
-/// How the row at a place stands to a path and a stage.
-fn compare(rows: &[Row], paths: &[u8], place: usize, path: &[u8], stage: u32) -> Ordering
-    requires { place < length rows.now }
-    ensures { RowGives (key_cmp path.now stage) paths.now rows.now place result }
+/// How the row stands to a path and a stage.
+fn compare(row: &Row, paths: &[u8], path: &[u8], stage: u32) -> Ordering
+    ensures { result ≡ key_cmp path.now stage (spelled paths.now row.now) }
 {
-    let row = rows[place];
-    path_of(&row, paths)
+    path_of(row, paths)
         .cmp(path)
         .then(stage_of(row.flags).cmp(&stage))
 }
@@ -37,7 +35,7 @@ impl Ordered for ByKey<'_> {
     }
 
     fn compare(&self, place: usize) -> Ordering {
-        compare(self.rows, self.paths, place, self.path, self.stage)
+        compare(&self.rows[place], self.paths, self.path, self.stage)
     }
 }
 

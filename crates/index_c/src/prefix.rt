@@ -1,10 +1,11 @@
 //! Searches among the rows of a table by what their paths begin with.
 
-ghost use Rattle.std.specs.Prelude.{◌<◌, ◌++◌, IfSome, length};
+ghost use Rattle.std.specs.Prelude.{◌≡◌, ◌++◌, IfSome};
 ghost use Rattle.gix_index.specs.Range.{LiesWithin};
-ghost use Rattle.index_c.specs.Finding.{IsPrefixed, RowGives, TellsPrefixed, record_prefix_cmp};
+ghost use Rattle.index_c.specs.Finding.{IsPrefixed, TellsPrefixed};
 ghost use Rattle.index_lookups.specs.SearchSteps.{prefix_answers};
-ghost use Rattle.index_table.specs.Table.{records_of};
+ghost use Rattle.index_search.specs.Prefix.{prefix_cmp};
+ghost use Rattle.index_table.specs.Table.{records_of, row_path};
 
 use index_numbers::status::{DONE, NONE};
 use index_search::ordered::{Ordered, part, part_within};
@@ -23,13 +24,11 @@ pub struct Places {
     pub end: usize,
 }
 
-/// Where the path of the row at a place stands to a prefix in two pieces: equal where it begins with it.
-fn compare(rows: &[Row], paths: &[u8], place: usize, prefix: &[u8], tail: &[u8]) -> Ordering
-    requires { place < length rows.now }
-    ensures { RowGives (record_prefix_cmp (prefix.now ++ tail.now)) paths.now rows.now place result }
+/// Where the path of the row stands to a prefix in two pieces: equal where it begins with it.
+fn compare(row: &Row, paths: &[u8], prefix: &[u8], tail: &[u8]) -> Ordering
+    ensures { result ≡ prefix_cmp (prefix.now ++ tail.now) (row_path paths.now row.now) }
 {
-    let row = rows[place];
-    compare_pieces(path_of(&row, paths), prefix, tail)
+    compare_pieces(path_of(row, paths), prefix, tail)
 }
 
 /// Rows by what their paths begin with, to a prefix that is given in two pieces.
@@ -50,7 +49,7 @@ impl Ordered for ByPrefix<'_> {
     }
 
     fn compare(&self, place: usize) -> Ordering {
-        compare(self.rows, self.paths, place, self.prefix, self.tail)
+        compare(&self.rows[place], self.paths, self.prefix, self.tail)
     }
 }
 

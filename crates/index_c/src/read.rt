@@ -2,7 +2,7 @@
 
 ghost use Rattle.index_c.specs.Reads.{ReadsSplit, ReadsTable};
 ghost use Rattle.index_numbers.specs.Statuses.{TellsSummary};
-ghost use Rattle.index_numbers.specs.Summaries.{HasText, Tells};
+ghost use Rattle.index_numbers.specs.Summaries.{Tells};
 
 use index_numbers::number::kind_of;
 use index_numbers::status::{DONE, NO_ROOM};
@@ -44,9 +44,8 @@ pub extern "C" fn gix_index_read(
     text: &mut [u8],
     summary: &mut Summary,
 ) -> u32
-    ensures table { ReadsTable kind skip_hash bytes.now summary.new rows.old rows.new paths.old
-        paths.new result }
-    ensures text { HasText summary.new.text_bytes text.old text.new }
+    ensures { ReadsTable kind skip_hash bytes.now summary.new rows.old rows.new paths.old paths.new
+        text.old text.new result }
 {
     let Some(kind) = kind_of(kind) else {
         return tell_wrong_number(summary);
@@ -75,9 +74,8 @@ pub extern "C" fn gix_index_read_split(
     text: &mut [u8],
     summary: &mut Summary,
 ) -> u32
-    ensures table { ReadsSplit kind skip_hash bytes.now shared.now summary.new rows.old rows.new
-        paths.old paths.new result }
-    ensures text { HasText summary.new.text_bytes text.old text.new }
+    ensures { ReadsSplit kind skip_hash bytes.now shared.now summary.new rows.old rows.new paths.old
+        paths.new text.old text.new result }
 {
     let Some(kind) = kind_of(kind) else {
         return tell_wrong_number(summary);

@@ -1,10 +1,8 @@
 //! Changing an index by the rows of a caller's table.
 
-ghost use Rattle.std.specs.Prelude.{◌≡◌};
 ghost use Rattle.index_c.specs.Updated.{TellsOfBoth, TellsUpdated};
 ghost use Rattle.index_c.specs.Writes.{Changes};
-ghost use Rattle.index_c.specs.Written.{TellsWritten};
-ghost use Rattle.index_numbers.specs.declared.number.TheConstants.{NO_TREE};
+ghost use Rattle.index_c.specs.Written.{TellsNoTree};
 ghost use Rattle.index_numbers.specs.declared.status.TheConstants.{MEMORY, NO_ROOM};
 
 use crate::write::{Written, tell, tell_wrong_number, told_of_fault};
@@ -19,8 +17,7 @@ use std::alloc::Global;
 
 /// Tells why the bytes of the index, or of its shared one, aren't read.
 fn tell_unread(failure: &Failure, told: &mut Written) -> u32
-    ensures written { TellsWritten MEMORY (TellsOfBoth failure.now) result told.new }
-    ensures tree { told.new.tree ≡ NO_TREE }
+    ensures { TellsNoTree MEMORY (TellsOfBoth failure.now) result told.new }
 {
     let fault = number_of_error(&failure.error);
     *told = Written {
@@ -32,8 +29,7 @@ fn tell_unread(failure: &Failure, told: &mut Written) -> u32
 
 /// Tells what comes of changing an index.
 fn tell_updated(updated: &Result<Result<Image, Unwritten>, Failure>, told: &mut Written) -> u32
-    ensures written { TellsWritten NO_ROOM (TellsUpdated updated.now) result told.new }
-    ensures tree { told.new.tree ≡ NO_TREE }
+    ensures { TellsNoTree NO_ROOM (TellsUpdated updated.now) result told.new }
 {
     match updated {
         Ok(written) => tell(written, CachedTree::Absent, told),

@@ -2,11 +2,11 @@
 
 ghost use Rattle.std.specs.Prelude.{◌≡◌, ◌↔◌, IfSome, None};
 ghost use Rattle.index_c.specs.Writes.{WritesForm, WritesInPlace};
-ghost use Rattle.index_c.specs.Written.{Asks, HasWrongNumber, LeavesBlank, Tells, TellsOver, TellsUnread, TellsWritten, fault_told, image_told};
+ghost use Rattle.index_c.specs.Written.{Asks, HasWrongNumber, Tells, TellsOver, TellsUnread, TellsWritten, TellsWrongNumber, fault_told, image_told};
 
 use gix_index::file;
 use index_numbers::fault::{number_of_error, number_of_table, status_of_error};
-use index_numbers::number::{NO_TREE, OWN, choice_of, kind_of, number_of_tree, number_of_version};
+use index_numbers::number::{OWN, choice_of, kind_of, number_of_tree, number_of_version};
 use index_numbers::status::{DONE, MEMORY, NO_ROOM, REFUSED, WRONG_NUMBER};
 use index_table::over::{CachedTree, Replacement, write_over};
 use index_table::row::Row;
@@ -121,9 +121,7 @@ fn tell_over(over: &Result<Replacement, file::init::Error>, told: &mut Written) 
 
 /// Tells that a number of the form is none.
 pub(crate) fn tell_wrong_number(told: &mut Written) -> u32
-    ensures status { result ≡ WRONG_NUMBER }
-    ensures tree { told.new.tree ≡ NO_TREE }
-    ensures blank { LeavesBlank result told.new }
+    ensures { TellsWrongNumber result told.new }
 {
     *told = told_of_fault(0, 0, CachedTree::Absent);
     WRONG_NUMBER

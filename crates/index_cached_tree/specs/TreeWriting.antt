@@ -9,14 +9,15 @@ use Rattle.index_cached_tree.specs.declared.write.Error.TheVariants as errors
 
 -- a failed writer took a prefix of the bytes; at a refusal it is as it was
 abbrev pub TreeFails : {S : Type 0} → (S → Option (List ℕ)) → (S → Bool) → S → S → Error → List ℕ → Type 0
-TreeFails taken failed old new (errors.Io e) bytes = AppendsPrefix (taken old) (taken new) bytes × (failed new ≡ true)
+TreeFails taken failed old new (errors.Io e) bytes =
+    AppendsPrefix (taken old) (taken new) bytes × (failed old ≡ false → failed new ≡ true)
 TreeFails taken failed old new errors.TooLarge bytes = new ≡ old
 
--- an Ok took the bytes whole, and the writer has not failed
+-- an Ok took the bytes whole, and a writer that hadn't failed has not failed
 abbrev pub WritesTree : {S T : Type 0} → (S → Option (List ℕ)) → (S → ℕ → Kind → List ℕ → Type 0) → (S → Bool) → S → S
     → Result T Error → List ℕ → Type 0
 WritesTree taken hashed failed old new r bytes =
-    MatchResult r (λ _. Took taken hashed old new bytes × (failed new ≡ false))
+    MatchResult r (λ _. Took taken hashed old new bytes × (failed old ≡ false → failed new ≡ false))
     (λ e. TreeFails taken failed old new e bytes)
 
 -- the answer that the writer failed

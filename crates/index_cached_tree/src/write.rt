@@ -103,7 +103,6 @@ fn two<'a>(a: &'a [u8], b: &'a [u8]) -> [&'a [u8]; 2]
 /// Writes a node without its children.
 #[tactic(auto, unfolding(crate::specs::TreeImage::node_head_bytes))]
 pub(super) fn put_node_head<W: Out>(tree: &Tree, out: &mut W) -> io::Result<()>
-    requires { W.failed out.old ≡ false }
     ensures { Puts W.Out out.old out.new result
         (node_head_bytes (out-Tree tree.now).name.items (out-Tree tree.now).id
         (out-Tree tree.now).num_entries (length (out-Tree tree.now).children.items)) }
@@ -118,7 +117,6 @@ pub(super) fn put_node_head<W: Out>(tree: &Tree, out: &mut W) -> io::Result<()>
 /// Writes a node and all below it, in preorder.
 #[cycle(nodes)]
 fn put_node<W: Out>(tree: &Tree, out: &mut W) -> io::Result<()>
-    requires { W.failed out.old ≡ false }
     ensures { Puts W.Out out.old out.new result (node_bytes (node_of tree.now)) }
 {
     put_node_head(tree, out)?;
@@ -128,7 +126,6 @@ fn put_node<W: Out>(tree: &Tree, out: &mut W) -> io::Result<()>
 /// Writes several nodes and all below them.
 #[cycle(nodes)]
 fn put_nodes<W: Out>(trees: &[Tree], out: &mut W) -> io::Result<()>
-    requires { W.failed out.old ≡ false }
     ensures { Puts W.Out out.old out.new result
         (flat_map (λ t. node_bytes (node_of t)) trees.now) }
 {
@@ -190,8 +187,7 @@ pub(super) fn item_head(signature: [u8; 4], len: u32) -> [u8; 8]
 /// Writes the tree as [`Tree::write_to`] does. Its content has this length, which [`Tree::content_len`] counts. An
 /// error comes only where the writer failed, which then took a prefix of the bytes.
 pub fn put_item<W: Out>(tree: &Tree, len: u32, out: &mut W) -> io::Result<()>
-    requires len { len ≡ length (node_bytes (node_of tree.now)) }
-    requires unfailed { W.failed out.old ≡ false }
+    requires { len ≡ length (node_bytes (node_of tree.now)) }
     ensures { Puts W.Out out.old out.new result (item_bytes (tree_item (node_of tree.now))) }
 {
     out.put(&item_head(SIGNATURE, len))?;
@@ -214,11 +210,10 @@ impl Tree {
     /// [`Error::TooLarge`] comes before any byte and leaves the writer as it was. [`Error::Io`] comes only where the
     /// writer failed, which then took a prefix of the bytes. No memory is taken; the call is as deep as the tree.
     pub fn write_to<W: Out>(&self, out: &mut W) -> Result<(), Error>
-        requires { W.failed out.old ≡ false }
         ensures bytes { WritesTree W.taken W.hashed W.failed out.old out.new result
             (item_bytes (tree_item (node_of self.now))) }
         ensures loan { W.loan out.new ≡ W.loan out.old }
-        ensures io { IsIo result ↔ (W.failed out.new ≡ true) }
+        ensures io { W.failed out.old ≡ false → (IsIo result ↔ (W.failed out.new ≡ true)) }
         ensures too_large { (result ≡ Err Error.TooLarge)
             ↔ (2 ^ 32 ≤ length (node_bytes (node_of self.now))) }
     {

@@ -109,12 +109,12 @@ abbrev pub BeginsIndex : {S F M : Type 0} → Folder S F M → S → Kind → Li
 BeginsIndex folder now kind path answer = GivesIndex
     (λ index. IsBegun (folder.known now) path kind (contents (state_of index))) (FailsToRead folder now kind path) answer
 
--- the state has the changes that a text in a file says, and its paths lie in its storage; or what is wrong with the text
--- is the failure
+-- the state has the changes that a text in a file says, where its paths lie in its storage, as they do then too; or what
+-- is wrong with the text is the failure
 pub record ChangesState (nul : Bool) (kind : Kind) (text from : List ℕ) (old new : State)
     (answer : Result (Unit {0}) Failure) : Type 0 where
-  pub updated : OnOk answer (IsUpdatedBy nul kind text (contents old) (contents new))
-  pub placed : PathsInStorage new
+  pub updated : OnOk answer (PathsInStorage old → IsUpdatedBy nul kind text (contents old) (contents new))
+  pub placed : PathsInStorage old → PathsInStorage new
   pub fault : IfErr answer (IsOfText nul kind text from)
 
 -- such an index with the changes that the text in a file says; or why there is none

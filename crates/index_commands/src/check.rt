@@ -1,9 +1,8 @@
 //! The commands `check` and `check-trees`.
 
-ghost use Rattle.std.specs.Prelude.{◌≡◌, false};
 ghost use Rattle.gix_index.specs.File.{state_of};
 ghost use Rattle.gix_index.specs.Order.{IsStrictlyOrdered};
-ghost use Rattle.gix_index.specs.State.{PathsInStorage, contents};
+ghost use Rattle.gix_index.specs.State.{contents};
 ghost use Rattle.index_commands.specs.Checking.{ChecksIndex, ComparesTrees, Verifies};
 
 use gix_index::File;
@@ -26,8 +25,7 @@ fn compare_trees<'a>(
     index: &File,
     path: &'a str,
 ) -> Result<(), Failure<'a>>
-    requires placed { PathsInStorage (state_of index.now) }
-    requires ordered { IsStrictlyOrdered (contents (state_of index.now)).records }
+    requires { IsStrictlyOrdered (contents (state_of index.now)).records }
     ensures { ComparesTrees ids (contents (state_of index.now)) path.now result }
 {
     if !ids {
@@ -47,7 +45,6 @@ fn verify_contents<'a>(
     index: &File,
     path: &'a str,
 ) -> Result<(), Failure<'a>>
-    requires { PathsInStorage (state_of index.now) }
     ensures { Verifies ids (contents (state_of index.now)) path.now result }
 {
     if let Err(fault) = index.verify_entries() {
@@ -74,7 +71,6 @@ pub fn check<'a, D: Folder, W: Out>(
     path: &'a str,
     out: &mut W,
 ) -> Result<(), Failure<'a>>
-    requires unfailed { W.failed out.old ≡ false }
     ensures { ChecksIndex ids D.Folder folder.now kind path.now W.Out out.old out.new result }
 {
     let index = index_at(folder, alloc, kind, path)?;

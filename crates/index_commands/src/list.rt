@@ -1,6 +1,5 @@
 //! The command `list`.
 
-ghost use Rattle.std.specs.Prelude.{◌≡◌, false};
 ghost use Rattle.index_commands.specs.Listing.{ListsIndex};
 
 use gix_index::file::folder::Folder;
@@ -24,7 +23,6 @@ pub fn list<'a, D: Folder, W: Out>(
     path: &'a str,
     out: &mut W,
 ) -> Result<(), Failure<'a>>
-    requires unfailed { W.failed out.old ≡ false }
     ensures { ListsIndex style D.Folder folder.now kind path.now W.Out out.old out.new result }
 {
     let index = index_at(folder, alloc, kind, path)?;

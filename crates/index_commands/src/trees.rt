@@ -1,8 +1,8 @@
 //! The command `trees`, and the trees of an index.
 
-ghost use Rattle.std.specs.Prelude.{◌≡◌, IfErr, IfOk, None, false};
+ghost use Rattle.std.specs.Prelude.{IfErr, IfOk, None};
 ghost use Rattle.gix_index.specs.File.{state_of};
-ghost use Rattle.gix_index.specs.State.{PathsInStorage, contents};
+ghost use Rattle.gix_index.specs.State.{contents};
 ghost use Rattle.gix_index.specs.Tree.{node_of};
 ghost use Rattle.index_commands.specs.Trees.{IsOfTrees, IsTreeOfIndex, ListsTrees};
 
@@ -33,7 +33,6 @@ impl ComponentCheck for AnyName {
 
 /// The cached tree of the entries of an index, made anew.
 pub fn tree_of<'a>(alloc: Global, index: &File, path: &'a str) -> Result<Tree, Failure<'a>>
-    requires { PathsInStorage (state_of index.now) }
     ensures made { IfOk result
         (λ tree. IsTreeOfIndex (contents (state_of index.now)) (node_of tree)) }
     ensures fault { IfErr result (IsOfTrees (contents (state_of index.now)) path.now) }
@@ -60,7 +59,6 @@ pub fn trees<'a, D: Folder, W: Out>(
     path: &'a str,
     out: &mut W,
 ) -> Result<(), Failure<'a>>
-    requires unfailed { W.failed out.old ≡ false }
     ensures { ListsTrees style D.Folder folder.now kind path.now W.Out out.old out.new result }
 {
     let index = index_at(folder, alloc, kind, path)?;

@@ -1,7 +1,7 @@
 //! The command `update`.
 
 ghost use Rattle.gix_index.specs.Order.{IsStrictlyOrdered};
-ghost use Rattle.gix_index.specs.State.{PathsInStorage, contents};
+ghost use Rattle.gix_index.specs.State.{contents};
 ghost use Rattle.index_commands.specs.Updating.{BeginsIndex, ChangesState, GivesUpdated, UpdatesIndex};
 
 use crate::rewrite::{Form, choice};
@@ -50,8 +50,7 @@ fn change<'a>(
     state: &mut State,
     from: &'a str,
 ) -> Result<(), Failure<'a>>
-    requires placed { PathsInStorage state.old }
-    requires ordered { IsStrictlyOrdered (contents state.old).records }
+    requires { IsStrictlyOrdered (contents state.old).records }
     ensures { ChangesState nul kind text.now from.now state.old state.new result }
 {
     let lines = match read(alloc, nul, kind, text) {

@@ -9,7 +9,7 @@ use Rattle.std.specs.List.{list_any, starts_with}
 use Rattle.std.specs.Prelude.{nat_eq}
 use Rattle.std.proofs.lemmas.Result.{IfOk-weaker}
 use Rattle.index_metadata.specs.Flags.{stage_number}
-use Rattle.index_entries.specs.Order.{IsStrictlyOrdered, record_stage}
+use Rattle.index_entries.specs.Order.{record_stage}
 use Rattle.index_entries.specs.declared.Pathless.{Pathless}
 use Rattle.index_entries.specs.Record.{Record, records_in, with_path}
 use Rattle.index_entries.specs.Shared.{shared_len}
@@ -20,7 +20,7 @@ use Rattle.index_lookups.proofs.TableMade.{and_both, and_to, begins_at, begins_t
 use Rattle.index_edits.specs.Changes.{applied_one}
 use Rattle.index_edits.specs.ClearSteps.{IsClearAfter, IsClearFor, SettlesClear}
 use Rattle.index_edits.specs.Edits.{IsStagedInto, are_at_odds, staged}
-use Rattle.index_edits.specs.EntryEdits.{Entries, SettlesEntry, Storage}
+use Rattle.index_edits.specs.EntryEdits.{ChangesPlaced, Entries, SettlesEntry, Storage}
 use Rattle.index_edits.specs.declared.stage.Displaced.{Displaced}
 use Rattle.index_edits.specs.EditSteps.{IsClear, IsClearUpto, stands_above}
 use Rattle.index_edits.specs.declared.change.Change.{Change}
@@ -152,12 +152,13 @@ pub settled_whole : {E : Type 0} (entry : Pathless) (path : List ℕ) (s : Stora
 settled_whole entry path s es t ds r h =
     let stage = stage_number entry.flags.0 in
     let old = records_in s.items es.items in
-    let now = records_in t.items ds.items in
     let new = with_path path entry in
     record {
       staged = record {
-        made = on_ok r (IsStrictlyOrdered old → IsClearUpto 0 path entry old → IsStagedInto new old now)
-            (IsStrictlyOrdered old → IsStagedInto new old now) (λ m o. m o (clear_none stage old)) h.staged.made;
+        made = on_ok r
+            (ChangesPlaced (λ old now. IsClearUpto 0 path entry old → IsStagedInto new old now) s.items es.items t.items
+            ds.items) (ChangesPlaced (IsStagedInto new) s.items es.items t.items ds.items)
+            (λ m placed o. m placed o (clear_none stage old)) h.staged.made;
         placed = h.staged.placed;
         storage = h.staged.storage;
         err_entries = h.staged.err_entries;

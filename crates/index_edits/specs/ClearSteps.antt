@@ -1,13 +1,13 @@
 -- Edits at a path of which so many bytes at the front are known to need no folder where a file of the entry's stage
 -- stands (the library's own). The clauses of whole edits don't cite these.
-use Rattle.std.specs.Prelude.{◌≡◌, ℕ, List, [], ◌∷◌, ◌++◌, All, length, Result, IfOk, OnErr, OnOk}
+use Rattle.std.specs.Prelude.{◌≡◌, ℕ, List, [], ◌∷◌, ◌++◌, Result, IfOk, OnErr, OnOk}
 use Rattle.index_metadata.specs.Flags.{stage_number}
-use Rattle.index_entries.specs.Record.{IsPlaced, Record, records_in, with_path}
+use Rattle.index_entries.specs.Record.{Record, records_in, with_path}
 use Rattle.index_entries.specs.declared.Pathless.{Pathless}
 use Rattle.index_edits.specs.Changes.{IsAppliedTo}
 use Rattle.index_edits.specs.Edits.{IsStagedInto}
 use Rattle.index_edits.specs.EditSteps.{IsClear, IsClearUpto}
-use Rattle.index_edits.specs.EntryEdits.{ChangesOrdered, Entries, PutsEntry, Storage, TellsOf}
+use Rattle.index_edits.specs.EntryEdits.{ChangesPlaced, Entries, PutsEntry, StayInStorage, Storage, TellsOf}
 use Rattle.index_edits.specs.declared.change.Change.{Change}
 use Rattle.index_edits.specs.declared.change.Change.TheVariants.{Stage, Unstage}
 use Rattle.index_edits.specs.declared.stage.Displaced.{Displaced}
@@ -33,9 +33,9 @@ pub record SettlesClear {E : Type 0} (known : ℕ) (entry : Pathless) (path : Li
 -- they were
 pub record AppliesClear {T E : Type 0} (known : ℕ) (c : Change) (s : Storage) (es : Entries) (t : Storage)
     (ds : Entries) (r : Result T E) : Type 0 where
-  pub applied : OnOk r (ChangesOrdered (λ old now. IsClearFor known c old → IsAppliedTo (c ∷ []) old now) s.items
+  pub applied : OnOk r (ChangesPlaced (λ old now. IsClearFor known c old → IsAppliedTo (c ∷ []) old now) s.items
       es.items t.items ds.items)
-  pub placed : All (IsPlaced (length t.items)) ds.items
+  pub placed : StayInStorage s.items es.items t.items ds.items
   pub storage : (more : List ℕ) × (t.items ≡ s.items ++ more)
   pub err_entries : OnErr r (ds.items ≡ es.items)
   pub err_storage : OnErr r (t.items ≡ s.items)

@@ -5,7 +5,7 @@ use Rattle.std.specs.Prelude.{◌<◌, ◌≤◌, Result, drop, filter, length, 
 use Rattle.std.specs.List.{insert, list_any, starts_with}
 use Rattle.std.specs.declared.cmp.Ordering.TheVariants.{Less, Greater}
 use Rattle.index_entries.specs.Order.{IsOrderedByPath, IsStrictlyOrdered, path_cmp, record_cmp, record_stage}
-use Rattle.index_entries.specs.Record.{IsPlaced, Record, records_in, with_path}
+use Rattle.index_entries.specs.Record.{Record, records_in, with_path}
 use Rattle.index_entries.specs.declared.Entry.{Entry}
 use Rattle.index_entries.specs.declared.Pathless.{Pathless}
 use Rattle.index_lookups.specs.Closest.{is_below}
@@ -14,7 +14,7 @@ use Rattle.index_lookups.specs.Range.{begins_with, is_at}
 use Rattle.index_metadata.specs.Flags.{stage_code, stage_number}
 use Rattle.index_metadata.specs.declared.entry.Stage.{Stage}
 use Rattle.index_edits.specs.Edits.{are_at_odds}
-use Rattle.index_edits.specs.EntryEdits.{Entries, PutsEntry, Storage}
+use Rattle.index_edits.specs.EntryEdits.{Entries, PutsEntry, StayInStorage, Storage}
 
 -- the new record stands in the new list between those below it and those above it, in place of what had its path and
 -- stage
@@ -115,4 +115,4 @@ pub record TellsInTheWay (known : ℕ) (path : List ℕ) (entry : Pathless) (rs 
 pub record RemovesOthers (new : Record) (storage : List ℕ) (old now : Entries) : Type 0 where
   pub left : records_in storage now.items ≡ filter (λ r. not (is_other new r)) (records_in storage old.items)
   pub fewer : length now.items ≤ length old.items
-  pub placed : All (IsPlaced (length storage)) now.items
+  pub placed : StayInStorage storage old.items storage now.items

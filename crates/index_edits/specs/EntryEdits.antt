@@ -1,6 +1,6 @@
 -- What each call that edits a list of entries answers, and what it leaves of the list and of the storage of the paths (the
--- library's own). Of the records it is promised where they strictly increase. `s` is the storage of the old entries `es`,
--- and `t` that of the new ones `ds`.
+-- library's own). Of the records it is promised where they strictly increase and, where the storage may grow, each path
+-- lies in it. `s` is the storage of the old entries `es`, and `t` that of the new ones `ds`.
 use Rattle.std.specs.Prelude.{◌≡◌, ◌⊎◌, ℕ, List, ◌++◌, All, count_by, length, Result, IfOk, OnErr, OnOk}
 use Rattle.std.specs.Global.{Vec}
 use Rattle.index_parts.specs.declared.hash.Kind.{Kind}
@@ -28,20 +28,30 @@ Storage = Vec ℕ
 abbrev pub ChangesOrdered : (List Record → List Record → Type 0) → List ℕ → List Entry → List ℕ → List Entry → Type 0
 ChangesOrdered change s es t ds = IsStrictlyOrdered (records_in s es) → change (records_in s es) (records_in t ds)
 
--- What a call leaves that puts an entry at a path among others: the records come by this change of them, and each path
--- lies in the storage, which is as it was or has the path at its end. After an error both are as they were.
+-- so they do where each old path lies in its storage too
+abbrev pub ChangesPlaced : (List Record → List Record → Type 0) → List ℕ → List Entry → List ℕ → List Entry
+    → Type 0
+ChangesPlaced change s es t ds = All (IsPlaced (length s)) es → ChangesOrdered change s es t ds
+
+-- each new path lies in its storage, where each old one lies in its own
+abbrev pub StayInStorage : List ℕ → List Entry → List ℕ → List Entry → Type 0
+StayInStorage s es t ds = All (IsPlaced (length s)) es → All (IsPlaced (length t)) ds
+
+-- What a call leaves that puts an entry at a path among others: the records come by this change of them, and the paths
+-- stay in the storage, which is as it was or has the path at its end. After an error both are as they were.
 pub record PutsEntry {T E : Type 0} (change : List Record → List Record → Type 0) (path : List ℕ) (s : Storage)
     (es : Entries) (t : Storage) (ds : Entries) (r : Result T E) : Type 0 where
-  pub made : OnOk r (ChangesOrdered change s.items es.items t.items ds.items)
-  pub placed : All (IsPlaced (length t.items)) ds.items
+  pub made : OnOk r (ChangesPlaced change s.items es.items t.items ds.items)
+  pub placed : StayInStorage s.items es.items t.items ds.items
   pub storage : (t.items ≡ s.items) ⊎ (t.items ≡ s.items ++ path)
   pub err_entries : OnErr r (ds.items ≡ es.items)
   pub err_storage : OnErr r (t.items ≡ s.items)
 
--- where the records strictly increase, this is told of the entry that is staged at the path among them
+-- where each path lies in the storage, and the records strictly increase, this is told of the entry that is staged at the
+-- path among them
 abbrev pub TellsOf : Pathless → List ℕ → Storage → Entries → Displaced → Type 0
 TellsOf entry path s es told =
-    IsStrictlyOrdered (records_in s.items es.items)
+    All (IsPlaced (length s.items)) es.items → IsStrictlyOrdered (records_in s.items es.items)
     → IsToldOf (with_path path entry) (records_in s.items es.items) told
 
 -- an entry is staged at a path
@@ -66,6 +76,18 @@ pub record ResolvesEntry {E : Type 0} (entry : Pathless) (path : List ℕ) (s : 
 abbrev pub SaysWhy : {T : Type 0} → Check → Kind → Pathless → List ℕ → Storage → Result T Error → Type 0
 SaysWhy refusal kind entry path s r = SaysReason (fault_of refusal kind entry path) (length s.items) path r
 
+-- an entry is staged at a path, or it is told why not
+pub record StagesAllowed (refusal : Check) (kind : Kind) (entry : Pathless) (path : List ℕ) (s : Storage) (es : Entries)
+    (t : Storage) (ds : Entries) (r : Result Displaced Error) : Type 0 where
+  pub reason : SaysWhy refusal kind entry path s r
+  pub made : SettlesEntry entry path s es t ds r
+
+-- a merged entry is put in place of all stages of a path, or it is told why not
+pub record ResolvesAllowed (refusal : Check) (kind : Kind) (entry : Pathless) (path : List ℕ) (s : Storage)
+    (es : Entries) (t : Storage) (ds : Entries) (r : Result Displaced Error) : Type 0 where
+  pub reason : SaysWhy refusal kind (merged entry) path s r
+  pub made : ResolvesEntry entry path s es t ds r
+
 -- no change is refused; or the error says the first that is, or else a want of memory
 abbrev pub SaysFirstRefused : {T : Type 0} → Check → Kind → List Change → Storage → Result T ApplyError → Type 0
 SaysFirstRefused refusal kind cs s r = SaysRefusal (refusal_of refusal kind (length s.items) cs) r
@@ -79,13 +101,13 @@ CountsAt path s es count =
 pub record UnstagesPath (path s : List ℕ) (es ds : Entries) (told : ℕ) : Type 0 where
   pub unstaged : ChangesOrdered (IsUnstagedFrom path) s es.items s ds.items
   pub count : CountsAt path s es told
-  pub placed : All (IsPlaced (length s)) ds.items
+  pub placed : StayInStorage s es.items s ds.items
 
 -- the changes are made one after another, and the storage has more at its end; after an error both are as they were
 pub record AppliesAll {T E : Type 0} (cs : List Change) (s : Storage) (es : Entries) (t : Storage) (ds : Entries)
     (r : Result T E) : Type 0 where
-  pub applied : OnOk r (ChangesOrdered (IsAppliedTo cs) s.items es.items t.items ds.items)
-  pub placed : All (IsPlaced (length t.items)) ds.items
+  pub applied : OnOk r (ChangesPlaced (IsAppliedTo cs) s.items es.items t.items ds.items)
+  pub placed : StayInStorage s.items es.items t.items ds.items
   pub storage : (more : List ℕ) × (t.items ≡ s.items ++ more)
   pub err_entries : OnErr r (ds.items ≡ es.items)
   pub err_storage : OnErr r (t.items ≡ s.items)

@@ -1,7 +1,7 @@
 //! Making one change of several, over entries that are copied on the way to its path.
 
-ghost use Rattle.std.specs.Prelude.{◌≡◌, ◌≤◌, ◌++◌, List, All, IfOk, length, take};
-ghost use Rattle.index_entries.specs.Record.{IsPlaced, Record, records_in};
+ghost use Rattle.std.specs.Prelude.{◌≡◌, ◌≤◌, ◌++◌, List, IfOk, length, take};
+ghost use Rattle.index_entries.specs.Record.{Record, records_in};
 ghost use Rattle.index_edits.specs.ClearSteps.{AppliesClear, IsClearAfter, IsClearFor};
 ghost use Rattle.index_edits.specs.EditSteps.{AreBeyond};
 
@@ -41,7 +41,6 @@ pub fn apply_one(
     change: &Change<'_>,
     known: usize,
 ) -> Result<(), AllocError>
-    requires placed { All (IsPlaced (length storage.old.items)) entries.old.items }
     ensures { AppliesClear known change.now storage.old entries.old storage.new entries.new result }
 {
     match change {
@@ -78,7 +77,6 @@ pub fn pass(
     rest: &[Entry],
     path: &[u8],
 ) -> Result<usize, AllocError>
-    requires { All (IsPlaced (length storage.now)) rest.now }
     ensures inside { IfOk result (λ count. count ≤ length rest.now) }
     ensures copied { IfOk result (λ count. done.new.items ≡ done.old.items ++ take count rest.now) }
     ensures beyond { IfOk result (AreBeyond path.now (records_in storage.now rest.now)) }

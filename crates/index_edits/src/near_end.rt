@@ -1,6 +1,6 @@
 //! Searches that begin near the end of a list, where the entries that a change concerns mostly stand.
 
-ghost use Rattle.std.specs.Prelude.{◌≡◌, ◌≤◌, IfErr, IfOk, IfSome, false};
+ghost use Rattle.std.specs.Prelude.{◌≡◌, ◌≤◌, IfErr, IfOk, IfSome};
 ghost use Rattle.std.specs.Prelude.{length, ok_or};
 ghost use Rattle.std.specs.Ordering.{is_eq};
 ghost use Rattle.index_entries.specs.Order.{IsOrderedByPath, IsStrictlyOrdered};
@@ -8,7 +8,8 @@ ghost use Rattle.index_lookups.specs.Closest.{is_below};
 ghost use Rattle.index_lookups.specs.Lookup.{IsKeyAt, insertion_of, place_of};
 ghost use Rattle.index_lookups.specs.Range.{IsPart, IsRange, is_at};
 ghost use Rattle.index_metadata.specs.Flags.{stage_code};
-ghost use Rattle.index_search.specs.Halving.{IsAround, IsPartedAt, IsRising};
+ghost use Rattle.index_search.specs.Halving.{IsRising};
+ghost use Rattle.index_edits.specs.NearEnd.{ClosesIn, FindsFirst};
 
 use index_entries::slice::EntrySlice;
 use index_lookups::search::{Asked, Prefix};
@@ -22,10 +23,7 @@ const NEAR: usize = 64;
 /// Between which places the first that isn't before what is looked for stands. It looks one place back from the end,
 /// then two more, then four, as long as few are passed.
 fn gallop_back<R: Ordered>(places: &R) -> (usize, usize)
-    ensures in_order { result.0 ≤ result.1 }
-    ensures inside { result.1 ≤ length (R.answers places.now) }
-    ensures around { IsRising (R.answers places.now)
-        → IsAround false (R.answers places.now) result.0 result.1 }
+    ensures { ClosesIn (R.answers places.now) result }
 {
     let len = places.len();
     let mut high = len;
@@ -42,9 +40,7 @@ fn gallop_back<R: Ordered>(places: &R) -> (usize, usize)
 
 /// The first place that isn't before what is looked for. It takes few looks where that place is near the end.
 fn first_near_end<R: Ordered>(places: &R) -> usize
-    ensures in_range { result ≤ length (R.answers places.now) }
-    ensures parts { IsRising (R.answers places.now)
-        → IsPartedAt false (R.answers places.now) result }
+    ensures { FindsFirst (R.answers places.now) result }
 {
     let (low, high) = gallop_back(places);
     part_within(places, false, low, high).0

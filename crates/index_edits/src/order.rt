@@ -1,9 +1,8 @@
 //! Changes in the order of their paths, where the order makes no difference.
 
-ghost use Rattle.std.specs.Prelude.{◌≡◌, ◌<◌, IsNone, ◌++◌, ◌∷◌, [], IfOk, IfSome, IsTrue, length, map};
-ghost use Rattle.std.specs.List.{HoldsAt};
+ghost use Rattle.std.specs.Prelude.{◌≡◌, IsNone, ◌++◌, ◌∷◌, [], IfOk, IfSome, IsTrue, map};
 ghost use Rattle.index_edits.specs.Changes.{path_of};
-ghost use Rattle.index_edits.specs.Reorders.{AreInOrder, IsAnswerBelow, IsReorderedTo, StayAsTheyAre, are_nested};
+ghost use Rattle.index_edits.specs.Reorders.{AreInOrder, IsReorderedTo, StayAsTheyAre, are_nested};
 ghost use Rattle.index_search.specs.Prefix.{prefix_cmp};
 
 use crate::change::Change;
@@ -31,26 +30,20 @@ impl Ordered for InFolder<'_> {
     }
 }
 
-/// Whether the path of one of the changes lies in that of the one at a place, as in a folder. None in front of it does, so
-/// those behind it are looked at, and few where few stand in front of what the folder has.
-fn has_below(changes: &[Change<'_>], place: usize) -> bool
-    requires ordered { AreInOrder changes.now }
-    requires inside { place < length changes.now }
-    ensures { HoldsAt (IsAnswerBelow changes.now result) changes.now place }
-{
-    let folder = changes[place].path();
-    let places = InFolder { changes, folder };
-    let end = end_from(&places, place + 1);
-    places.compare(end - 1).is_eq()
-}
-
-/// Whether one of the paths is a folder that another lies in.
+/// Whether one of the paths is a folder that another lies in. None in front of a folder does, so those behind it are looked
+/// at, and few where few stand in front of what the folder has.
 fn are_nested(changes: &[Change<'_>]) -> bool
     requires { AreInOrder changes.now }
     ensures { result ≡ are_nested changes.now }
 {
     for place in 0..changes.len() {
-        if has_below(changes, place) {
+        let folder = changes[place].path();
+        let places = InFolder {
+            changes: &*changes,
+            folder,
+        };
+        let end = end_from(&places, place + 1);
+        if places.compare(end - 1).is_eq() {
             return true;
         }
     }

@@ -1,8 +1,8 @@
 //! Taking out what stands in the way of an entry.
 
-ghost use Rattle.std.specs.Prelude.{◌≡◌, ◌++◌, ◌∷◌, [], All, length, nat_eq};
+ghost use Rattle.std.specs.Prelude.{◌≡◌, ◌++◌, ◌∷◌, [], nat_eq};
 ghost use Rattle.std.specs.List.{starts_with};
-ghost use Rattle.index_entries.specs.Record.{IsPlaced, with_path};
+ghost use Rattle.index_entries.specs.Record.{with_path};
 ghost use Rattle.index_edits.specs.EditSteps.{RemovesOthers, is_other, record_at};
 
 use index_entries::remove::remove_entries;
@@ -30,7 +30,6 @@ pub fn is_other(entry: Pathless, path: &[u8], other: &Entry, other_path: &[u8]) 
 
 /// Takes those entries out. The new one stays where it stands among them. Each is looked at.
 pub(crate) fn remove_others(entries: &mut Vec<Entry>, storage: &[u8], entry: Pathless, path: &[u8])
-    requires { All (IsPlaced (length storage.now)) entries.old.items }
     ensures { RemovesOthers (with_path path.now entry) storage.now entries.old entries.new }
 {
     remove_entries(

@@ -1,7 +1,7 @@
 //! Putting an entry at its place among others.
 
-ghost use Rattle.std.specs.Prelude.{◌≡◌, ◌+◌, ◌<◌, ◌≤◌, All, length};
-ghost use Rattle.index_entries.specs.Record.{IsPlaced, made_entry};
+ghost use Rattle.std.specs.Prelude.{◌≡◌, ◌+◌, ◌<◌, ◌≤◌, length};
+ghost use Rattle.index_entries.specs.Record.{made_entry};
 ghost use Rattle.index_edits.specs.EditSteps.{MovesLast, Puts};
 
 use crate::near_end::key_place;
@@ -30,14 +30,14 @@ fn move_last(entries: &mut [Entry], place: usize)
 }
 
 /// Puts the entry at its place by path, then stage: over the one that has both, whose path it takes, or between those
-/// below it and those above it. Over entries that don't strictly increase it stands anywhere.
+/// below it and those above it. Over entries that don't strictly increase it stands anywhere. Where a path lies outside of
+/// the storage, it may be another once this one is put behind it.
 pub(crate) fn put(
     entries: &mut Vec<Entry>,
     storage: &mut PathStorage,
     entry: Pathless,
     path: &[u8],
 ) -> Result<(), AllocError>
-    requires placed { All (IsPlaced (length storage.old.items)) entries.old.items }
     ensures put { Puts entry path.now storage.old entries.old storage.new entries.new result }
     ensures more { length entries.new.items ≤ length entries.old.items + 1 }
 {

@@ -1,9 +1,8 @@
 //! Ending a conflict.
 
-ghost use Rattle.std.specs.Prelude.{◌≡◌, All, length};
-ghost use Rattle.index_entries.specs.Record.{IsPlaced};
+ghost use Rattle.std.specs.Prelude.{◌≡◌};
 ghost use Rattle.index_edits.specs.Edits.{merged};
-ghost use Rattle.index_edits.specs.EntryEdits.{ResolvesEntry, SaysWhy};
+ghost use Rattle.index_edits.specs.EntryEdits.{ResolvesAllowed};
 
 use crate::error::Error;
 use crate::stage::{Displaced, stage};
@@ -35,9 +34,8 @@ pub fn resolve<C: ComponentCheck>(
     entry: Pathless,
     path: &[u8],
 ) -> Result<Displaced, Error>
-    requires placed { All (IsPlaced (length storage.old.items)) entries.old.items }
-    ensures reason { SaysWhy (C.refusal check.now) kind (merged entry) path.now storage.old result }
-    ensures made { ResolvesEntry entry path.now storage.old entries.old storage.new entries.new result }
+    ensures { ResolvesAllowed (C.refusal check.now) kind entry path.now storage.old entries.old
+        storage.new entries.new result }
 {
     stage(entries, storage, check, kind, merged(entry), path)
 }

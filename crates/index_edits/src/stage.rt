@@ -1,12 +1,11 @@
 //! Staging an entry.
 
-ghost use Rattle.std.specs.Prelude.{◌≡◌, ◌≢◌, All, length, nat_lt};
+ghost use Rattle.std.specs.Prelude.{◌≡◌, ◌≢◌, nat_lt};
 ghost use Rattle.index_entries.specs.Order.{IsStrictlyOrdered};
-ghost use Rattle.index_entries.specs.Record.{IsPlaced};
 ghost use Rattle.index_metadata.specs.Flags.{stage_number};
 ghost use Rattle.index_edits.specs.ClearSteps.{SettlesClear};
 ghost use Rattle.index_edits.specs.EditSteps.{TellsInTheWay, ends_conflict};
-ghost use Rattle.index_edits.specs.EntryEdits.{SaysWhy, SettlesEntry};
+ghost use Rattle.index_edits.specs.EntryEdits.{SettlesEntry, StagesAllowed};
 ghost use Rattle.index_edits.specs.Refusals.{SaysReason, fault_of};
 
 use crate::error::Error;
@@ -75,7 +74,6 @@ pub(crate) fn settle_clear(
     path: &[u8],
     known: usize,
 ) -> Result<Displaced, AllocError>
-    requires placed { All (IsPlaced (length storage.old.items)) entries.old.items }
     ensures { SettlesClear known entry path.now storage.old entries.old storage.new entries.new
         result }
 {
@@ -97,7 +95,6 @@ pub fn settle(
     entry: Pathless,
     path: &[u8],
 ) -> Result<Displaced, AllocError>
-    requires placed { All (IsPlaced (length storage.old.items)) entries.old.items }
     ensures { SettlesEntry entry path.now storage.old entries.old storage.new entries.new result }
 {
     settle_clear(entries, storage, entry, path, 0)
@@ -130,7 +127,8 @@ pub fn check_stage<C: ComponentCheck>(
 /// so before.
 ///
 /// What is wrong with the path, the mode, the id or a name of the path is refused, and a want of room or memory. The
-/// entries and the storage are then as they were. Over entries that don't strictly increase nothing more is said.
+/// entries and the storage are then as they were. Over entries that don't strictly increase, or with a path outside of
+/// the storage, nothing more is said.
 ///
 /// It makes a few searches and moves what lies behind; where others go, it looks at each entry once.
 pub fn stage<C: ComponentCheck>(
@@ -141,9 +139,8 @@ pub fn stage<C: ComponentCheck>(
     entry: Pathless,
     path: &[u8],
 ) -> Result<Displaced, Error>
-    requires placed { All (IsPlaced (length storage.old.items)) entries.old.items }
-    ensures reason { SaysWhy (C.refusal check.now) kind entry path.now storage.old result }
-    ensures made { SettlesEntry entry path.now storage.old entries.old storage.new entries.new result }
+    ensures { StagesAllowed (C.refusal check.now) kind entry path.now storage.old entries.old
+        storage.new entries.new result }
 {
     check_stage(check, kind, storage.len(), entry, path)?;
     let told = settle(entries, storage, entry, path)?;

@@ -1,7 +1,6 @@
 //! Taking a path out of the index.
 
-ghost use Rattle.std.specs.Prelude.{◌≡◌, ◌≤◌, ◌++◌, All, drop, length, take};
-ghost use Rattle.index_entries.specs.Record.{IsPlaced};
+ghost use Rattle.std.specs.Prelude.{◌≡◌, ◌≤◌, ◌++◌, drop, length, take};
 ghost use Rattle.index_edits.specs.EntryEdits.{UnstagesPath};
 
 use crate::near_end::path_range;
@@ -25,7 +24,6 @@ fn cut(entries: &mut Vec<Entry>, start: usize, end: usize)
 ///
 /// Over entries whose paths fall somewhere nothing is said of which go.
 pub fn unstage(entries: &mut Vec<Entry>, storage: &[u8], path: &[u8]) -> usize
-    requires { All (IsPlaced (length storage.now)) entries.old.items }
     ensures { UnstagesPath path.now storage.now entries.old entries.new result }
 {
     let Some(places) = path_range(&EntrySlice::new(entries, storage), path) else {

@@ -82,18 +82,20 @@ impl Entry {
 
     /// The entry's path, from the top of the work tree, in the state that it is from.
     pub fn path<'a, S: PathBacking>(&self, state: &'a S) -> &'a [u8]
-        requires { IsPlaced (length (S.paths state.now)) self.now }
         ensures { result.now ≡ (record_in (S.paths state.now) self.now).path }
     {
         self.path_in(state.backing())
     }
 
-    /// The entry's path in this storage, which is that of the state that it is from.
+    /// The entry's path in this storage, which is that of the state that it is from. Of a storage that ends before the
+    /// path does, it is what is there of it.
     pub fn path_in<'a>(&self, backing: PathStorageRef<'a>) -> &'a [u8]
-        requires { IsPlaced (length backing.now) self.now }
         ensures { result.now ≡ (record_in backing.now self.now).path }
     {
-        &backing[self.path.start()..self.path.end()]
+        if self.is_placed(backing.len()) {
+            return &backing[self.path.start()..self.path.end()];
+        }
+        &backing[self.path.start().min(backing.len())..]
     }
 
     /// Where the path lies in the storage of the state that the entry is from, in bytes from its start: `path_in` gives
@@ -108,15 +110,23 @@ impl Entry {
     /// How this entry compares to another of the same state: by path, and at the same path by the number of the
     /// stage. Equal exactly where both agree.
     pub fn cmp<S: PathBacking>(&self, other: &Entry, state: &S) -> Ordering
-        requires this_placed { IsPlaced (length (S.paths state.now)) self.now }
-        requires other_placed { IsPlaced (length (S.paths state.now)) other.now }
         ensures order { result ≡ record_cmp (record_in (S.paths state.now) self.now)
             (record_in (S.paths state.now) other.now) }
         ensures equal { (result ≡ Equal) ↔ IsSameKey (record_in (S.paths state.now) self.now)
             (record_in (S.paths state.now) other.now) }
         ensures total { IsTotalOrder record_cmp }
     {
-        Entry::cmp_filepaths(self.path(state), other.path(state)).then(
+        self.compare_in(other, state.backing())
+    }
+
+    /// The same of entries whose paths lie in this storage.
+    fn compare_in(&self, other: &Entry, backing: &[u8]) -> Ordering
+        ensures order { result ≡ record_cmp (record_in backing.now self.now)
+            (record_in backing.now other.now) }
+        ensures equal { (result ≡ Equal) ↔ IsSameKey (record_in backing.now self.now)
+            (record_in backing.now other.now) }
+    {
+        Entry::cmp_filepaths(self.path_in(backing), other.path_in(backing)).then(
             self.stage_raw().cmp(&other.stage_raw()),
         )
     }

@@ -3,7 +3,7 @@
 ghost use Rattle.std.specs.Int.{to_be_bytes, w64};
 ghost use Rattle.std.specs.Prelude.{◌≡◌, ◌≢◌, ◌≤◌, ◌+◌, ◌↔◌, All, IsTrue, drop, length, take};
 ghost use Rattle.index_entries.specs.EntryImage.{LackNul};
-ghost use Rattle.index_entries.specs.Record.{IsPlaced, records_in};
+ghost use Rattle.index_entries.specs.Record.{records_in};
 ghost use Rattle.index_entries.specs.Shared.{shared_len};
 
 use crate::Entry;
@@ -67,7 +67,6 @@ pub fn lacks_nul(path: &[u8]) -> bool
 
 /// Whether no path of the entries that are not left out has a NUL.
 pub fn paths_without_nul(entries: &[Entry], storage: &[u8]) -> bool
-    requires placed { All (IsPlaced (length storage.now)) entries.now }
     ensures { IsTrue result ↔ LackNul (records_in storage.now entries.now) }
 {
     for entry in entries {

@@ -1,7 +1,6 @@
 //! Taking entries out.
 
-ghost use Rattle.std.specs.Prelude.{◌≡◌, All, length};
-ghost use Rattle.index_entries.specs.Record.{IsPlaced};
+ghost use Rattle.std.specs.Prelude.{◌≡◌};
 ghost use Rattle.index_entries.specs.Removed.{RemovesWith};
 
 use crate::Entry;
@@ -27,7 +26,6 @@ pub fn remove_entries<F: FnMut(usize, &[u8], &mut Entry) -> bool>(
     backing: &[u8],
     remove: &mut F,
 )
-    requires placed { All (IsPlaced (length backing.now)) entries.old.items }
     requires callable { F.IsAlwaysCallable remove.old }
     ensures { RemovesWith (λ f i p e b o g. F.step f i p e b o g) backing.now remove.old
         entries.old.items remove.new entries.new.items }

@@ -1,17 +1,16 @@
 //! Entries with the storage in which their paths lie, lent as one list.
 
-ghost use Rattle.std.specs.Prelude.{◌≡◌, ◌<◌, ◌≤◌, List, All, length, take};
+ghost use Rattle.std.specs.Prelude.{◌≡◌, ◌<◌, ◌≤◌, List, length, take};
 ghost use Rattle.std.specs.List.{HoldsAt};
 ghost use Rattle.index_entries.specs.Order.{record_cmp};
-ghost use Rattle.index_entries.specs.Record.{IsPlaced, Record, records_in};
+ghost use Rattle.index_entries.specs.Record.{Record, records_in};
 ghost use Rattle.index_entries.specs.Slice.{IsRecordOf, StandsTo};
 
 use crate::Entry;
 use std::cmp::Ordering;
 use std::marker::Model;
 
-/// Entries, and the storage in which their paths lie, lent: the list of their records. Use it to look at entries whose
-/// storage is known to be their own: no call then asks for it again.
+/// Entries, and the storage in which their paths lie, lent: the list of their records.
 #[derive(Drop)]
 pub struct EntrySlice<'a> {
     entries: &'a [Entry],
@@ -22,14 +21,11 @@ impl<'a> Model for EntrySlice<'a> {
     ghost Value = { List Record };
 
     ghost view = { λ s. records_in s.storage.now s.entries.now };
-
-    ghost invariant = { λ s. All (IsPlaced (length s.storage.now)) s.entries.now };
 }
 
 impl<'a> EntrySlice<'a> {
     /// The entries with their paths.
     pub fn new(entries: &'a [Entry], storage: &'a [u8]) -> EntrySlice<'a>
-        requires { All (IsPlaced (length storage.now)) entries.now }
         ensures { result ≡ records_in storage.now entries.now }
     {
         EntrySlice { entries, storage }

@@ -1,13 +1,12 @@
 //! Putting entries in order, by path and then by stage.
 
-ghost use Rattle.std.specs.Prelude.{◌≡◌, All, IsOk, OnErr, OnOk, length};
+ghost use Rattle.std.specs.Prelude.{◌≡◌, IsOk, OnErr, OnOk};
 ghost use Rattle.std.specs.List.Sorted.{IsPermutation, IsStable, IsStableBy};
 ghost use Rattle.index_entries.specs.Order.{record_cmp};
-ghost use Rattle.index_entries.specs.Record.{IsPlaced, records_in};
+ghost use Rattle.index_entries.specs.Record.{records_in};
 ghost use Rattle.index_entries.specs.Sorted.{AsksThird, IsOrdered, TiesFollow, is_entry_before};
 
 use crate::Entry;
-use crate::order::compare_entries;
 use crate::slice::EntrySlice;
 use std::alloc::AllocError;
 use std::cmp::Ordering;
@@ -17,7 +16,6 @@ use std::cmp::Ordering;
 /// Entries that are in order already are read once, and stay where they are; no memory is asked for then. After a
 /// refusal of memory they stand as they stood.
 pub fn sort(entries: &mut Vec<Entry>, backing: &[u8]) -> Result<(), AllocError>
-    requires { All (IsPlaced (length backing.now)) entries.old.items }
     ensures permutation { IsPermutation entries.old.items entries.new.items }
     ensures ordered { OnOk result (IsOrdered (records_in backing.now entries.new.items)) }
     ensures stable { IsStableBy (is_entry_before backing.now) entries.old.items entries.new.items }
@@ -31,7 +29,7 @@ pub fn sort(entries: &mut Vec<Entry>, backing: &[u8]) -> Result<(), AllocError>
     if EntrySlice::new(entries, backing).is_ordered() {
         return Ok(());
     }
-    entries.sort_by(|a, b| compare_entries(a, b, backing))
+    entries.sort_by(|a, b| a.compare_in(b, backing))
 }
 
 /// Puts the entries in order, and those of the same path and stage in the order of the closure. It is asked of such
@@ -45,7 +43,6 @@ pub fn sort_by<F: FnMut(&Entry, &Entry) -> Ordering>(
     mut compare: F,
 ) -> Result<(), AllocError>
     requires callable { F.IsAlwaysCallable compare }
-    requires placed { All (IsPlaced (length backing.now)) entries.old.items }
     ensures permutation { IsPermutation entries.old.items entries.new.items }
     ensures ordered { OnOk result (IsOrdered (records_in backing.now entries.new.items)) }
     ensures ties { OnOk result
@@ -59,7 +56,7 @@ pub fn sort_by<F: FnMut(&Entry, &Entry) -> Ordering>(
             ensures { AsksThird (λ f x y o g. F.step f x y o g) backing.entry.now compare.entry
                 a.entry b.entry result compare.exit }
         {
-            match compare_entries(a, b, backing) {
+            match a.compare_in(b, backing) {
                 Ordering::Equal => compare(a, b),
                 order => order,
             }

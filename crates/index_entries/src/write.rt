@@ -60,8 +60,6 @@ fn put_behind<W: Out>(
     block: &mut Block,
     out: &mut W,
 ) -> io::Result<()>
-    requires placed { IsPlaced (length storage.now) entry.now }
-    requires unfailed { W.failed out.old ≡ false }
     requires room { block.old.is_full ≡ false }
     ensures gathered { OnOk result (Gathers W.Out out.old out.new block.new.bytes
         (block.old.bytes ++ entry_in version previous.now (record_in storage.now entry.now))) }
@@ -87,8 +85,6 @@ pub fn put_entries<W: Out>(
     storage: &[u8],
     out: &mut W,
 ) -> io::Result<()>
-    requires placed { All (IsPlaced (length storage.now)) entries.now }
-    requires unfailed { W.failed out.old ≡ false }
     ensures { Puts W.Out out.old out.new result
         (entries_in version [] (written (records_in storage.now entries.now))) }
 {
@@ -117,7 +113,6 @@ fn version_by(choice: VersionChoice, is_extended: bool) -> Version
 
 /// What the entries come to, by one pass over them; None where 32 bits can't count the bytes.
 pub fn totals_of(choice: VersionChoice, entries: &[Entry], storage: &[u8]) -> Option<Totals>
-    requires placed { All (IsPlaced (length storage.now)) entries.now }
     requires few { length entries.now < 2 ^ 32 }
     ensures version { IfSome result
         (λ t. t.version ≡ chosen_version choice (records_in storage.now entries.now)) }

@@ -1,14 +1,12 @@
 -- Events that are told behind others.
-use Rattle.std.proofs.Common.{◌≡◌, ℕ, List, ◌++◌, Result, Ok, Err, ap, append_assoc, false, refl, sym, subst, ◌∙◌}
+use Rattle.std.proofs.Common.{◌≡◌, ℕ, List, ◌++◌, Result, Ok, Err, ap, append_assoc, refl, sym, subst, ◌∙◌}
 use Rattle.std.proofs.lemmas.Grind.{flat_map-append}
-use Rattle.std.specs.Prelude.{OnErr, OnOk, is_err}
 use Rattle.std.specs.IoError.{error_kind}
 use Rattle.std.specs.declared.io.Error.{Error}
 use Rattle.std.specs.declared.io.ErrorKind.TheVariants.{OutOfMemory}
-use Rattle.index_parts.specs.Taking.{AppendsPrefix}
 use Rattle.index_parts.specs.declared.hash.io.Out.{Ghosts}
 use Rattle.index_text.proofs.Blocks.{blocks_broken, blocks_then, more_waits, no_memory, none_out}
-use Rattle.index_text.specs.Blocks.{Passes, PutsBlocks}
+use Rattle.index_text.specs.Blocks.{PutsBlocks}
 use Rattle.index_events.specs.Event.{Event, print}
 
 -- ---- texts
@@ -30,31 +28,11 @@ pub done_as : {S T U : Type 0} {w : Ghosts S} {a b : S} {x : U} {y : T} {waiting
     → PutsBlocks w a b (Ok x) waiting text → PutsBlocks w a b (Ok y) waiting text
 done_as p = record { ok = p.ok; err = tt; going = p.going; cause = tt; loan = p.loan }
 
--- a block of what waits goes out
-pub block_put : {S T : Type 0} {w : Ghosts S} {a b : S} (r : Result T Error) {waiting held text : List ℕ}
-    → held ≡ text → OnOk r (Passes (w.taken a) (w.taken b) waiting held)
-    → OnErr r (AppendsPrefix (w.taken a) (w.taken b) held) → w.failed b ≡ is_err r → w.loan b ≡ w.loan a
-    → PutsBlocks w a b r waiting text
-block_put {w = w} {a = a} {b = b} (Ok y) {waiting = waiting} e ok err failed loan = record {
-  ok = subst (λ (l : List ℕ). Passes (w.taken a) (w.taken b) waiting l) e ok;
-  err = tt;
-  going = failed;
-  cause = tt;
-  loan = loan;
-}
-block_put {w = w} {a = a} {b = b} (Err y) e ok err failed loan = record {
-  ok = tt;
-  err = subst (λ (l : List ℕ). AppendsPrefix (w.taken a) (w.taken b) l) e err;
-  going = tt;
-  cause = λ n. failed;
-  loan = loan;
-}
-
 -- the first events wait
 pub first_sent : {S : Type 0} {w : Ghosts S} {a : S} (spell : Event → List ℕ) (old : List ℕ) (es : List Event)
-    {new : List ℕ} → w.failed a ≡ false → new ≡ old ++ print spell es
+    {new : List ℕ} → new ≡ old ++ print spell es
     → PutsBlocks {T = Unit {0}} w a a (Ok tt) new (old ++ print spell es)
-first_sent spell old es going e = none_out going e
+first_sent spell old es e = none_out e
 
 -- more events wait
 pub told_then : {S U : Type 0} {w : Ghosts S} {a b : S} {x : U} (spell : Event → List ℕ) (old : List ℕ)

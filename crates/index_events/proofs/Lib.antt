@@ -1,4 +1,5 @@
 mod Chain
 mod Listed
+mod Loops
 mod Steps
 mod TreeEvents

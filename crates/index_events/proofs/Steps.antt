@@ -9,10 +9,17 @@ pub one_told : (spell : Event → List ℕ) {new : List ℕ} (old : List ℕ) (e
     → new ≡ old ++ print spell (e ∷ [])
 one_told spell old e h = h ∙ ap (λ (l : List ℕ). old ++ l) (sym (append-nil (spell e)))
 
--- known by what it is
-pub one_as : (spell : Event → List ℕ) {new : List ℕ} (old : List ℕ) (e f : Event) → new ≡ old ++ spell e → e ≡ f
-    → new ≡ old ++ print spell (f ∷ [])
-one_as spell old e f h is = one_told spell old f (h ∙ ap (λ (x : Event). old ++ spell x) is)
+-- two events, and three
+pub two_told : (spell : Event → List ℕ) (old : List ℕ) {one new : List ℕ} (e f : Event) → one ≡ old ++ spell e
+    → new ≡ one ++ spell f → new ≡ old ++ print spell (e ∷ f ∷ [])
+two_told spell old e f a b =
+    appended_more spell old (e ∷ []) (f ∷ []) _ _ (one_told spell old e a) (one_told spell _ f b)
+
+pub three_told : (spell : Event → List ℕ) (old : List ℕ) {one two new : List ℕ} (e f g : Event)
+    → one ≡ old ++ spell e → two ≡ one ++ spell f → new ≡ two ++ spell g
+    → new ≡ old ++ print spell (e ∷ f ∷ g ∷ [])
+three_told spell old e f g a b c =
+    appended_more spell old (e ∷ f ∷ []) (g ∷ []) _ _ (two_told spell old e f a b) (one_told spell _ g c)
 
 -- what is told from here to the return, where that is an Ok
 pub record Ends {T E : Type 0} (spell : Event → List ℕ) (r : Result T E) (new old : List ℕ) (es : List Event) : Type 0

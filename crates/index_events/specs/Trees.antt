@@ -1,13 +1,13 @@
 -- The events of a cached tree (the library's own; the parts of a directory are those of gitformat-index, "Cache tree").
 use Rattle.std.specs.Prelude.{ℕ, ◌+◌, ◌*◌, min, nat_lt, List, [], ◌∷◌, ◌++◌, codes, replicate, Option, Some, None}
 use Rattle.std.specs.Prelude.{if◌then◌else◌}
-use Rattle.index_cached_tree.specs.Tree.{Node, Nodes, node, node_of, none, more}
+use Rattle.index_cached_tree.specs.Tree.{Node, Nodes, node, none, more}
 use Rattle.index_cached_tree.specs.declared.Tree.{Tree}
 use Rattle.index_cached_tree.specs.declared.Tree.TheViews.{out-Tree}
 use Rattle.index_parts.specs.declared.hash.ObjectId.{ObjectId}
-use Rattle.index_events.specs.Event.{Datum, Event, Position, a_number, absent_field, an_id, begin_array, begin_object}
-use Rattle.index_events.specs.Event.{count_line, datum_field, element, end_array, end_object, first_field, heading}
-use Rattle.index_events.specs.Event.{listed, next, next_field, no_value, text_field}
+use Rattle.index_events.specs.declared.event.Datum.TheVariants.{Absent, Count, Id, Number}
+use Rattle.index_events.specs.Event.{Event, Position, begin_array, begin_object, datum_field, element, end_array}
+use Rattle.index_events.specs.Event.{end_object, first, heading, line_field, next, text_field}
 
 -- two spaces for each level of indent
 unfoldable pub indent : ℕ → List ℕ
@@ -24,24 +24,23 @@ below depth = min (depth + 1) 4294967295
 -- a directory's depth, where its indent doesn't say it
 unfoldable pub depth_events : ℕ → List Event
 depth_events depth =
-    if nat_lt deepest_indent depth then count_line (indent (deepest_indent + 2)) (codes "depth") depth ∷ [] else []
-
--- a number of entries, or that it isn't known
-abbrev pub entry_count : Option ℕ → Datum
-entry_count None = no_value (codes "-1")
-entry_count (Some n) = a_number n
+    if nat_lt deepest_indent depth then line_field (indent (deepest_indent + 2)) (codes "depth") (Number depth) ∷ []
+    else []
 
 -- a directory up to the directories in it: its name, and a level further in its id and the number of entries below it
-unfoldable pub known_events : ℕ → List ℕ → ObjectId → Option ℕ → List Event
-known_events depth name id count =
-    text_field (first_field (indent (min depth deepest_indent + 1)) (codes "directory") (codes "name")) name
+unfoldable pub opened_events : Position → ℕ → List ℕ → ObjectId → Option ℕ → List Event
+opened_events position depth name id count =
+    begin_object position
+    ∷ text_field (indent (min depth deepest_indent + 1)) (codes "directory") (first (codes "name")) name
     ∷ depth_events depth
-    ++ datum_field (next_field (indent (min depth deepest_indent + 2)) (codes "id") (codes "id")) (an_id (Some id))
-    ∷ datum_field (next_field (indent (min depth deepest_indent + 2)) (codes "entries") (codes "num_entries"))
-    (entry_count count) ∷ begin_array (next (codes "children")) ∷ []
+    ++ datum_field (indent (min depth deepest_indent + 2)) (codes "id") (next (codes "id")) (Id (Some id))
+    ∷ datum_field (indent (min depth deepest_indent + 2)) (codes "entries") (next (codes "num_entries")) (Count count)
+    ∷ begin_array (next (codes "children")) ∷ []
 
-abbrev pub opened_events : Position → ℕ → List ℕ → ObjectId → Option ℕ → List Event
-opened_events position depth name id count = begin_object position ∷ known_events depth name id count
+-- the same of a tree in memory
+abbrev pub tree_opened : Position → ℕ → Tree → List Event
+tree_opened position depth t =
+    opened_events position depth (out-Tree t).name.items (out-Tree t).id (out-Tree t).num_entries
 
 abbrev mutual
   -- a directory, and those in it
@@ -57,18 +56,5 @@ abbrev mutual
 
 -- the tree from its root on
 abbrev pub cached_tree_events : Option Node → List Event
-cached_tree_events None = absent_field [] (codes "cached tree") (codes "tree") ∷ []
+cached_tree_events None = datum_field [] (codes "cached tree") (next (codes "tree")) Absent ∷ []
 cached_tree_events (Some t) = heading [] (codes "cached tree") ∷ tree_events (next (codes "tree")) 0 t
-
--- ---- the same of a tree in memory
-
-abbrev pub tree_known : ℕ → Tree → List Event
-tree_known depth t = known_events depth (out-Tree t).name.items (out-Tree t).id (out-Tree t).num_entries
-
-abbrev pub tree_opened : Position → ℕ → Tree → List Event
-tree_opened position depth t =
-    opened_events position depth (out-Tree t).name.items (out-Tree t).id (out-Tree t).num_entries
-
--- those that lie in a directory
-abbrev pub subtrees : ℕ → List Tree → List Event
-subtrees depth ts = listed (λ i t. tree_events (element i) depth (node_of t)) ts

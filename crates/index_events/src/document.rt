@@ -1,17 +1,18 @@
 //! All of an index file.
 
-ghost use Rattle.std.specs.Prelude.{◌≡◌, false};
+ghost use Rattle.std.specs.Prelude.{◌≡◌};
 ghost use Rattle.index_entries.specs.EntryImage.{version_code};
-ghost use Rattle.index_state.specs.State.{PathsInStorage, contents};
+ghost use Rattle.index_state.specs.State.{contents};
 ghost use Rattle.index_text.specs.Blocks.{PutsText};
-ghost use Rattle.index_events.specs.Document.{behind_events, head_events, last_events, shown_text, state_entries};
-ghost use Rattle.index_events.specs.Event.{Sends, Tells};
+ghost use Rattle.index_events.specs.Document.{behind_events, document_events, head_events, last_events};
+ghost use Rattle.index_events.specs.Event.{Sends, Tells, print};
 
 use crate::bitmaps::{append_link, append_monitor};
 use crate::event::Datum::{Answer, Id, Number};
-use crate::event::Event::{BeginArray, BeginObject, Count, EndArray, EndObject, EndText, Value};
-use crate::event::Member::{Alone, Next};
-use crate::event::{first, next};
+use crate::event::Event::{
+    BeginArray, BeginObject, EndArray, EndObject, EndText, EntryAt, Line, Value,
+};
+use crate::event::Member::{Alone, First, Next};
 use crate::marks::{append_end, append_table};
 use crate::printer::{Printer, Text};
 use crate::trees::write_tree;
@@ -43,32 +44,16 @@ fn number_of_version(version: Version) -> u64
 fn append_head<P: Printer>(text: &mut Text, state: &State, checksum: Option<ObjectId>) -> Appended
     ensures { Tells P.spell result text.old text.new (head_events (contents state.now) checksum) }
 {
-    let version = number_of_version(state.version());
+    let version = Number(number_of_version(state.version()));
+    let sparse = Answer(state.is_sparse());
     text.put_all::<P>(&[
         BeginObject(Alone),
-        Value(first(b"", b"version", b"version"), Number(version)),
-        Value(next(b"", b"checksum", b"checksum"), Id(checksum)),
-        Value(
-            next(b"", b"sparse", b"is_sparse"),
-            Answer(state.is_sparse()),
-        ),
-        Count(b"", b"entries", state.entries().len() as u64),
+        Value(b"", b"version", First(b"version"), version),
+        Value(b"", b"checksum", Next(b"checksum"), Id(checksum)),
+        Value(b"", b"sparse", Next(b"is_sparse"), sparse),
+        Line(b"", b"entries", Number(state.entries().len() as u64)),
         BeginArray(Next(b"entries")),
     ])
-}
-
-/// Tells each entry; what fills a block goes out.
-fn write_entries<P: Printer, W: Out>(text: &mut Text, state: &State, out: &mut W) -> io::Result<()>
-    requires placed { PathsInStorage state.now }
-    requires going { W.failed out.old ≡ false }
-    ensures { Sends P.spell W.Out out.old out.new result text.old text.new
-        (state_entries state.now) }
-{
-    for (place, entry) in state.entries().iter().enumerate() {
-        P::entry(text, state, place, entry)?;
-        put_block(&mut text.bytes, out)?;
-    }
-    Ok(())
 }
 
 /// Tells the file system monitor, the offset table and the end marker, and the end.
@@ -91,9 +76,8 @@ fn write_behind<P: Printer, W: Out>(
     marks: &Marks,
     out: &mut W,
 ) -> io::Result<()>
-    requires { W.failed out.old ≡ false }
     ensures { Sends P.spell W.Out out.old out.new result text.old text.new
-        (behind_events P.BACKWARDS (contents state.now).extensions marks.now) }
+        (behind_events (contents state.now).extensions marks.now) }
 {
     P::put(text, EndArray)?;
     write_tree::<P, W>(text, state.tree(), out)?;
@@ -116,17 +100,16 @@ pub fn write_document<P: Printer, W: Out>(
     marks: &Marks,
     out: &mut W,
 ) -> io::Result<()>
-    requires placed { PathsInStorage state.now }
-    requires going { W.failed out.old ≡ false }
     ensures { PutsText W.Out out.old out.new result
-        (shown_text P.spell P.BACKWARDS state.now checksum marks.now) }
+        (print P.spell (document_events (contents state.now) checksum marks.now)) }
 {
-    let mut text = Text {
-        bytes: Vec::new(alloc),
-        alloc,
-    };
+    let bytes = Vec::new(alloc);
+    let mut text = Text { bytes };
     append_head::<P>(&mut text, state, checksum)?;
-    write_entries::<P, W>(&mut text, state, out)?;
+    for (place, entry) in state.entries().iter().enumerate() {
+        P::put(&mut text, EntryAt(place, entry, entry.path(state)))?;
+        put_block(&mut text.bytes, out)?;
+    }
     write_behind::<P, W>(&mut text, state, marks, out)?;
     put_text(text.bytes.as_slice(), out)
 }

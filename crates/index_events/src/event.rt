@@ -1,10 +1,8 @@
 //! What a printer is told, an event at a time.
-#![tactic(auto, unfolding(crate::specs::Event::field_of, crate::specs::Event::first_field, crate::specs::Event::next_field, crate::specs::Event::element_field, crate::specs::Event::absent_field))]
-
-ghost use Rattle.std.specs.Prelude.{◌≡◌};
-ghost use Rattle.index_events.specs.Event.{absent_field, element_field, field_of, first_field, next_field, told};
 
 use index_bitmaps::ranges::Range;
+use index_entries::Entry;
+use index_metadata::entry::Stat;
 use index_parts::hash::ObjectId;
 use index_small_extensions::index_entry_offset_table::Offset;
 use index_small_extensions::resolve_undo::Stage;
@@ -22,20 +20,9 @@ pub enum Member<'a> {
     Element(usize),
 }
 
-/// What a field is called, and where it stands.
-#[derive(Clone, Copy)]
-pub struct Field<'a> {
-    /// What stands before it in a line for people.
-    pub indent: &'a [u8],
-    /// What people read as its name.
-    pub words: &'a [u8],
-    /// Where it stands for programs.
-    pub member: Member<'a>,
-}
-
 /// What a field says.
 #[derive(Clone, Copy)]
-pub enum Datum<'a> {
+pub enum Datum {
     Number(u64),
     /// An id, or that there is none.
     Id(Option<ObjectId>),
@@ -45,71 +32,36 @@ pub enum Datum<'a> {
     Side(Option<Stage>),
     /// A block of entries.
     Block(Offset),
-    /// That there is no value; people read the word.
-    Empty(&'a [u8]),
+    /// How many there are, or that it isn't known.
+    Count(Option<u32>),
+    /// That there is no value.
+    Absent,
+    /// That what is there is malformed.
+    Malformed,
 }
 
-/// What is told at once.
+/// What is told at once. A field has what stands before it in a line for people, what they read as its name, and where it
+/// stands for programs.
 #[derive(Clone, Copy)]
 pub enum Event<'a> {
-    Value(Field<'a>, Datum<'a>),
+    Value(&'a [u8], &'a [u8], Member<'a>, Datum),
     /// A text, which may be any bytes.
-    Bytes(Field<'a>, &'a [u8]),
+    Bytes(&'a [u8], &'a [u8], Member<'a>, &'a [u8]),
     /// Ranges of places.
-    Ranges(Field<'a>, &'a [Range]),
+    Ranges(&'a [u8], &'a [u8], Member<'a>, &'a [Range]),
+    /// What a file system has of a file, and whether people read it a level further in than that of an entry.
+    FileStat(bool, Member<'a>, Stat),
+    /// An entry behind its place among the entries, and its path.
+    EntryAt(usize, &'a Entry, &'a [u8]),
     /// What people read above what stands further in: its indent, and words.
     Heading(&'a [u8], &'a [u8]),
-    /// A number that only people read.
-    Count(&'a [u8], &'a [u8], u64),
+    /// A field that only people read.
+    Line(&'a [u8], &'a [u8], Datum),
+    /// A field that only programs read.
+    Hidden(Member<'a>, Datum),
     BeginObject(Member<'a>),
     EndObject,
     BeginArray(Member<'a>),
     EndArray,
-    /// Whether something is there, which people see from what is told of it.
-    Presence(Member<'a>, bool),
     EndText,
-}
-
-/// The first field of an object.
-#[inline(always)]
-pub fn first<'a>(indent: &'a [u8], words: &'a [u8], name: &'a [u8]) -> Field<'a>
-    ensures { field_of result ≡ first_field indent.now words.now name.now }
-{
-    Field {
-        indent,
-        words,
-        member: Member::First(name),
-    }
-}
-
-/// Another field of an object.
-#[inline(always)]
-pub fn next<'a>(indent: &'a [u8], words: &'a [u8], name: &'a [u8]) -> Field<'a>
-    ensures { field_of result ≡ next_field indent.now words.now name.now }
-{
-    Field {
-        indent,
-        words,
-        member: Member::Next(name),
-    }
-}
-
-/// An item of an array, which only people read a name of.
-#[inline(always)]
-pub fn element<'a>(indent: &'a [u8], words: &'a [u8], place: usize) -> Field<'a>
-    ensures { field_of result ≡ element_field indent.now words.now place }
-{
-    Field {
-        indent,
-        words,
-        member: Member::Element(place),
-    }
-}
-
-/// A field without a value.
-#[inline(always)]
-pub fn absent<'a>(indent: &'a [u8], words: &'a [u8], name: &'a [u8]) -> Event<'a>
-    ensures { told result ≡ absent_field indent.now words.now name.now }
-{
-    Event::Value(next(indent, words, name), Datum::Empty(b"none"))
 }

@@ -1,15 +1,16 @@
 //! The events of a cached tree.
 
-ghost use Rattle.std.specs.Prelude.{◌≡◌, ◌≤◌, false};
+ghost use Rattle.std.specs.Prelude.{◌≡◌, ◌≤◌};
 ghost use Rattle.std.specs.Option.{option_map};
 ghost use Rattle.index_cached_tree.specs.Tree.{node_of};
-ghost use Rattle.index_events.specs.Event.{Sends, Tells, datum_of, position_of};
-ghost use Rattle.index_events.specs.Trees.{cached_tree_events, depth_events, entry_count, indent, subtrees, tree_events, tree_known, tree_opened};
+ghost use Rattle.index_events.specs.Event.{Sends, Tells, position_of};
+ghost use Rattle.index_events.specs.Trees.{cached_tree_events, depth_events, indent, tree_events, tree_opened};
 
-use crate::event::Datum::{self, Empty, Id, Number};
-use crate::event::Event::{BeginArray, BeginObject, Bytes, Count, Heading, Value};
-use crate::event::Member::{self, Element, Next};
-use crate::event::{absent, first, next};
+use crate::event::Datum::{Absent, Count, Id, Number};
+use crate::event::Event::{
+    BeginArray, BeginObject, Bytes, EndArray, EndObject, Heading, Line, Value,
+};
+use crate::event::Member::{self, Element, First, Next};
 use crate::printer::{Printer, Text};
 use index_cached_tree::Tree;
 use index_parts::hash::io::Out;
@@ -41,51 +42,27 @@ fn append_depth<P: Printer>(text: &mut Text, depth: u32) -> Appended
         return Ok(());
     }
     let indent = indent_of(DEEPEST_INDENT + 2);
-    P::put(text, Count(indent, b"depth", u64::from(depth)))
+    P::put(text, Line(indent, b"depth", Number(u64::from(depth))))
 }
 
-/// A number of entries, or that it isn't known.
-fn datum_of_count<'a>(count: Option<u32>) -> Datum<'a>
-    ensures { datum_of result ≡ entry_count count }
-{
-    match count {
-        Some(n) => Number(u64::from(n)),
-        None => Empty(b"-1"),
-    }
-}
-
-/// Tells what is known of a directory.
-fn append_known<P: Printer>(text: &mut Text, depth: u32, tree: &Tree) -> Appended
-    ensures { Tells P.spell result text.old text.new (tree_known depth tree.now) }
+/// Tells a directory up to those in it.
+fn append_own<P: Printer>(text: &mut Text, member: Member<'_>, depth: u32, tree: &Tree) -> Appended
+    ensures { Tells P.spell result text.old text.new
+        (tree_opened (position_of member.entry) depth tree.now) }
 {
     let level = depth.min(DEEPEST_INDENT);
     let (indent, inner) = (indent_of(level + 1), indent_of(level + 2));
     let name = tree.name.as_slice();
-    let id = next(inner, b"id", b"id");
-    let count = next(inner, b"entries", b"num_entries");
-    P::put(text, Bytes(first(indent, b"directory", b"name"), name))?;
+    let count = Count(tree.num_entries);
+    P::put(text, BeginObject(member))?;
+    P::put(text, Bytes(indent, b"directory", First(b"name"), name))?;
     append_depth::<P>(text, depth)?;
-    P::put(text, Value(id, Id(Some(tree.id))))?;
-    P::put(text, Value(count, datum_of_count(tree.num_entries)))?;
+    P::put(text, Value(inner, b"id", Next(b"id"), Id(Some(tree.id))))?;
+    P::put(text, Value(inner, b"entries", Next(b"num_entries"), count))?;
     P::put(text, BeginArray(Next(b"children")))
 }
 
-/// Tells a directory up to those in it.
-fn append_opened<P: Printer>(
-    text: &mut Text,
-    member: Member<'_>,
-    depth: u32,
-    tree: &Tree,
-) -> Appended
-    ensures { Tells P.spell result text.old text.new
-        (tree_opened (position_of member.entry) depth tree.now) }
-{
-    P::put(text, BeginObject(member))?;
-    append_known::<P>(text, depth, tree)
-}
-
 /// Tells a directory and all below it; what fills a block goes out.
-#[cycle(directories)]
 fn write_directory<P: Printer, W: Out>(
     text: &mut Text,
     member: Member<'_>,
@@ -93,32 +70,16 @@ fn write_directory<P: Printer, W: Out>(
     tree: &Tree,
     out: &mut W,
 ) -> io::Result<()>
-    requires { W.failed out.old ≡ false }
     ensures { Sends P.spell W.Out out.old out.new result text.old text.new
         (tree_events (position_of member.entry) depth (node_of tree.now)) }
 {
-    append_opened::<P>(text, member, depth, tree)?;
+    append_own::<P>(text, member, depth, tree)?;
     put_block(&mut text.bytes, out)?;
-    write_directories::<P, W>(text, depth.saturating_add(1), &tree.children, out)?;
-    Ok(text.put_ends::<P>()?)
-}
-
-/// Tells the directories that lie in one.
-#[cycle(directories)]
-fn write_directories<P: Printer, W: Out>(
-    text: &mut Text,
-    depth: u32,
-    trees: &[Tree],
-    out: &mut W,
-) -> io::Result<()>
-    requires { W.failed out.old ≡ false }
-    ensures { Sends P.spell W.Out out.old out.new result text.old text.new
-        (subtrees depth trees.now) }
-{
-    for (place, tree) in trees.iter().enumerate() {
-        write_directory::<P, W>(text, Element(place), depth, tree, out)?;
+    for (place, child) in tree.children.iter().enumerate() {
+        write_directory::<P, W>(text, Element(place), depth.saturating_add(1), child, out)?;
     }
-    Ok(())
+    P::put(text, EndArray)?;
+    Ok(P::put(text, EndObject)?)
 }
 
 /// Tells a tree from its root on; what fills a block goes out.
@@ -127,12 +88,11 @@ pub fn write_tree<P: Printer, W: Out>(
     tree: Option<&Tree>,
     out: &mut W,
 ) -> io::Result<()>
-    requires { W.failed out.old ≡ false }
     ensures { Sends P.spell W.Out out.old out.new result text.old text.new
         (cached_tree_events (option_map (λ t. node_of t.now) tree.entry)) }
 {
     let Some(tree) = tree else {
-        return Ok(P::put(text, absent(b"", b"cached tree", b"tree"))?);
+        return Ok(P::put(text, Value(b"", b"cached tree", Next(b"tree"), Absent))?);
     };
     P::put(text, Heading(b"", b"cached tree"))?;
     write_directory::<P, W>(text, Next(b"tree"), 0, tree, out)

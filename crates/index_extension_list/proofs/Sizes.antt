@@ -1,6 +1,6 @@
 -- How many bytes extensions have, one behind another.
 use Rattle.std.proofs.Common.{◌≡◌, ℕ, ◌+◌, ◌≤◌, ◌^◌, Bool, true, false, cond, ltb, List, [], ◌++◌, length, Option}
-use Rattle.std.proofs.Common.{Some, None, refl, sym, ap, arith, length-append}
+use Rattle.std.proofs.Common.{Some, None, refl, sym, ap, ◌∙◌, arith, length-append}
 use Rattle.std.specs.List.{flat_map}
 use Rattle.std.specs.Option.{option_map}
 use Rattle.std.proofs.lemmas.Bool.{ltb-false}
@@ -25,6 +25,24 @@ map_after f g (Some x) = refl
 pub bytes_behind : (xs ys : List Item)
     → flat_map item_bytes xs ++ flat_map item_bytes ys ≡ flat_map item_bytes (xs ++ ys)
 bytes_behind xs ys = sym (flat_map-append item_bytes xs ys)
+
+-- the bytes of all extensions, one list behind another
+pub items_pieces : (kind : Kind) (e : Extensions) → flat_map item_bytes (item_if tree_item e.tree)
+    ++ (flat_map item_bytes (item_if resolve_undo_item e.resolve_undo)
+    ++ (flat_map item_bytes (item_if (cache_item kind) e.untracked)
+    ++ (flat_map item_bytes (item_if monitor_item e.fs_monitor) ++ flat_map item_bytes (sparse_items e.sparse))))
+    ≡ flat_map item_bytes (items kind e)
+unfolding items
+items_pieces kind e =
+    let last = sparse_items e.sparse in
+    let monitor = item_if monitor_item e.fs_monitor in
+    let cache = item_if (cache_item kind) e.untracked in
+    let undo = item_if resolve_undo_item e.resolve_undo in
+    let tree = item_if tree_item e.tree in
+    ap (λ (l : List ℕ). flat_map item_bytes tree ++ l) (ap (λ (l : List ℕ). flat_map item_bytes undo ++ l)
+    (ap (λ (l : List ℕ). flat_map item_bytes cache ++ l) (bytes_behind monitor last)
+    ∙ bytes_behind cache (monitor ++ last)) ∙ bytes_behind undo (cache ++ (monitor ++ last)))
+    ∙ bytes_behind tree (undo ++ (cache ++ (monitor ++ last)))
 
 pub len_behind : (xs ys : List Item) → length (flat_map item_bytes (xs ++ ys))
     ≡ length (flat_map item_bytes xs) + length (flat_map item_bytes ys)

@@ -1,6 +1,6 @@
 //! Writing extensions, and the end marker behind them.
 
-ghost use Rattle.std.specs.Prelude.{◌≡◌, false, length};
+ghost use Rattle.std.specs.Prelude.{◌≡◌, length};
 ghost use Rattle.index_parts.specs.Puts.{Puts};
 ghost use Rattle.index_cached_tree.specs.GitOrder.{ordered_if};
 ghost use Rattle.index_cached_tree.specs.Tree.{node_of};
@@ -12,8 +12,8 @@ ghost use Rattle.index_extension_list.specs.Chosen.{extensions_of, sparse_items}
 ghost use Rattle.index_extension_list.specs.Lent.{chosen_cache, chosen_cache_len, chosen_monitor, chosen_monitor_len};
 ghost use Rattle.index_extension_list.specs.Lent.{chosen_tree, chosen_tree_len, chosen_undo, chosen_undo_len};
 ghost use Rattle.index_extension_list.specs.Listing.{AreLens};
-ghost use Rattle.index_extension_list.specs.PutsItems.{PutsIf, PutsItems, chosen_bytes, items_behind_tree};
-ghost use Rattle.index_extension_list.specs.PutsItems.{items_behind_undo, last_items, ordered_tree_bytes};
+ghost use Rattle.index_extension_list.specs.PutsItems.{PutsIf, PutsItems, chosen_bytes};
+ghost use Rattle.index_extension_list.specs.PutsItems.{ordered_tree_bytes};
 
 use crate::{Chosen, Lens};
 use index_cached_tree::write::put_item;
@@ -31,7 +31,6 @@ use std::io;
 #[tactic(auto, using(index_cached_tree::proofs::GitOrders::same_length))]
 fn put_tree_item<W: Out>(tree: &Tree, in_git_order: bool, len: u32, out: &mut W) -> io::Result<()>
     requires len { len ≡ length (node_bytes (ordered_if in_git_order (node_of tree.now))) }
-    requires unfailed { W.failed out.old ≡ false }
     ensures { Puts W.Out out.old out.new result (ordered_tree_bytes in_git_order tree.now) }
 {
     if in_git_order {
@@ -48,7 +47,6 @@ fn put_tree<W: Out>(
     out: &mut W,
 ) -> io::Result<()>
     requires len { len ≡ chosen_tree_len in_git_order tree }
-    requires unfailed { W.failed out.old ≡ false }
     ensures { PutsIf W.Out out.old out.new result tree_item (chosen_tree in_git_order tree.entry) }
 {
     match (tree, len) {
@@ -64,7 +62,6 @@ fn put_resolve_undo<W: Out>(
     out: &mut W,
 ) -> io::Result<()>
     requires len { len ≡ chosen_undo_len paths }
-    requires unfailed { W.failed out.old ≡ false }
     ensures { PutsIf W.Out out.old out.new result resolve_undo_item (chosen_undo paths.entry) }
 {
     match (paths, len) {
@@ -81,7 +78,6 @@ fn put_untracked<W: Out>(
     out: &mut W,
 ) -> io::Result<()>
     requires len { len ≡ chosen_cache_len kind cache }
-    requires unfailed { W.failed out.old ≡ false }
     ensures { PutsIf W.Out out.old out.new result (cache_item kind) (chosen_cache cache.entry) }
 {
     match (cache, len) {
@@ -93,7 +89,6 @@ fn put_untracked<W: Out>(
 /// Writes what a file system monitor said, where one did, whose content has this length.
 fn put_monitor<W: Out>(monitor: Option<&FsMonitor>, len: Option<u32>, out: &mut W) -> io::Result<()>
     requires len { len ≡ chosen_monitor_len monitor }
-    requires unfailed { W.failed out.old ≡ false }
     ensures { PutsIf W.Out out.old out.new result monitor_item (chosen_monitor monitor.entry) }
 {
     match (monitor, len) {
@@ -104,7 +99,6 @@ fn put_monitor<W: Out>(monitor: Option<&FsMonitor>, len: Option<u32>, out: &mut 
 
 /// Writes the mark of a sparse index, where it is one.
 fn put_sparse<W: Out>(is_sparse: bool, out: &mut W) -> io::Result<()>
-    requires { W.failed out.old ≡ false }
     ensures { PutsItems W.Out out.old out.new result (sparse_items is_sparse) }
 {
     if is_sparse {
@@ -113,57 +107,17 @@ fn put_sparse<W: Out>(is_sparse: bool, out: &mut W) -> io::Result<()>
     Ok(())
 }
 
-/// Writes what a file system monitor said, and the mark of a sparse index.
-fn put_last<W: Out>(chosen: Chosen<'_>, kind: Kind, lens: Lens, out: &mut W) -> io::Result<()>
-    requires lens { AreLens kind (extensions_of chosen) lens }
-    requires unfailed { W.failed out.old ≡ false }
-    ensures { PutsItems W.Out out.old out.new result (last_items chosen.entry) }
-{
-    put_monitor(chosen.fs_monitor, lens.fs_monitor, out)?;
-    put_sparse(chosen.is_sparse, out)
-}
-
-/// Writes the extensions behind resolve-undo.
-fn put_untracked_and_last<W: Out>(
-    chosen: Chosen<'_>,
-    kind: Kind,
-    lens: Lens,
-    out: &mut W,
-) -> io::Result<()>
-    requires lens { AreLens kind (extensions_of chosen) lens }
-    requires unfailed { W.failed out.old ≡ false }
-    ensures { PutsItems W.Out out.old out.new result
-        (items_behind_undo kind chosen.entry) }
-{
-    put_untracked(chosen.untracked, kind, lens.untracked, out)?;
-    put_last(chosen, kind, lens, out)
-}
-
-/// Writes the extensions behind the cached tree.
-fn put_behind_tree<W: Out>(
-    chosen: Chosen<'_>,
-    kind: Kind,
-    lens: Lens,
-    out: &mut W,
-) -> io::Result<()>
-    requires lens { AreLens kind (extensions_of chosen) lens }
-    requires unfailed { W.failed out.old ≡ false }
-    ensures { PutsItems W.Out out.old out.new result
-        (items_behind_tree kind chosen.entry) }
-{
-    put_resolve_undo(chosen.resolve_undo, lens.resolve_undo, out)?;
-    put_untracked_and_last(chosen, kind, lens, out)
-}
-
 /// Writes the extensions, one behind another, whose contents have these lengths, as [`Lens::of`] counts them.
 ///
 /// An error comes only where the writer failed, which then took a prefix of the bytes. No memory is taken.
 #[tactic(auto, unfolding(crate::specs::Chosen::items))]
 pub fn put_items<W: Out>(chosen: Chosen<'_>, kind: Kind, lens: Lens, out: &mut W) -> io::Result<()>
     requires lens { AreLens kind (extensions_of chosen) lens }
-    requires unfailed { W.failed out.old ≡ false }
     ensures written { Puts W.Out out.old out.new result (chosen_bytes kind chosen.entry) }
 {
     put_tree(chosen.tree, chosen.in_git_order, lens.tree, out)?;
-    put_behind_tree(chosen, kind, lens, out)
+    put_resolve_undo(chosen.resolve_undo, lens.resolve_undo, out)?;
+    put_untracked(chosen.untracked, kind, lens.untracked, out)?;
+    put_monitor(chosen.fs_monitor, lens.fs_monitor, out)?;
+    put_sparse(chosen.is_sparse, out)
 }

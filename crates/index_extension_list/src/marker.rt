@@ -1,12 +1,11 @@
 //! Writing the end marker behind extensions (gitformat-index, "End of Index Entry").
 
-ghost use Rattle.std.specs.Prelude.{◌≡◌, ◌≤◌, ◌<◌, ◌+◌, ◌++◌, [], false, take};
+ghost use Rattle.std.specs.Prelude.{◌≡◌, ◌≤◌, ◌<◌, ◌+◌, ◌++◌, take};
 ghost use Rattle.index_parts.specs.Puts.{Puts};
-ghost use Rattle.index_extension_list.specs.Chosen.{extensions_of};
-ghost use Rattle.index_extension_list.specs.Listing.{AreLens, head_if, listed_heads, sparse_head_len};
-ghost use Rattle.index_extension_list.specs.PutsItems.{marker_bytes};
+ghost use Rattle.index_extensions.specs.Encoding.{heads_bytes, item_bytes, marker_item};
+ghost use Rattle.index_extension_list.specs.Listing.{head_if, listed_heads, sparse_head_len};
 
-use crate::{Chosen, Lens};
+use crate::Lens;
 use index_cached_tree as tree;
 use index_extensions::{Signature, end_of_index_entry, sparse};
 use index_parts::hash::Kind;
@@ -26,17 +25,6 @@ struct Heads {
 }
 
 impl Heads {
-    /// Those of no extension.
-    fn none() -> Heads
-        ensures list { take result.count result.list ≡ [] }
-        ensures count { result.count ≡ 0 }
-    {
-        Heads {
-            list: [(*b"\0\0\0\0", 0); MOST],
-            count: 0,
-        }
-    }
-
     /// With one more, where there is one.
     fn with(self, signature: Signature, len: Option<u32>) -> Heads
         requires { self.count < 5 }
@@ -65,29 +53,32 @@ fn heads_of(lens: Lens, is_sparse: bool) -> Heads
     ensures list { take result.count result.list ≡ listed_heads lens is_sparse }
     ensures count { result.count ≤ 5 }
 {
-    Heads::none()
-        .with(tree::SIGNATURE, lens.tree)
+    let none = Heads {
+        list: [(*b"\0\0\0\0", 0); MOST],
+        count: 0,
+    };
+    none.with(tree::SIGNATURE, lens.tree)
         .with(resolve_undo::SIGNATURE, lens.resolve_undo)
         .with(untracked::SIGNATURE, lens.untracked)
         .with(fs_monitor::SIGNATURE, lens.fs_monitor)
         .with(sparse::SIGNATURE, sparse_head_len(is_sparse))
 }
 
-/// Writes an end marker behind these extensions, whose contents have these lengths, and which begin at this offset.
+/// Writes an end marker behind extensions whose contents have these lengths, and a sparse index's mark where it is one,
+/// all of which begin at this offset.
 ///
 /// An error comes only where the writer failed, which then took a prefix of the bytes. No memory is taken.
 pub fn put_marker<W: Out>(
-    chosen: Chosen<'_>,
-    kind: Kind,
     lens: Lens,
+    is_sparse: bool,
+    kind: Kind,
     offset: u32,
     out: &mut W,
 ) -> io::Result<()>
-    requires lens { AreLens kind (extensions_of chosen) lens }
-    requires unfailed { W.failed out.old ≡ false }
-    ensures written { Puts W.Out out.old out.new result (marker_bytes kind offset chosen.entry) }
+    ensures written { Puts W.Out out.old out.new result
+        (item_bytes (marker_item kind offset (heads_bytes (listed_heads lens is_sparse)))) }
 {
-    let heads = heads_of(lens, chosen.is_sparse);
+    let heads = heads_of(lens, is_sparse);
     let (list, _) = heads.list.split_at(heads.count);
     end_of_index_entry::write_to(out, kind, offset, list)
 }

@@ -1,5 +1,5 @@
 -- The pieces that an untracked cache is written in.
-use Rattle.std.proofs.Common.{◌≡◌, ℕ, ◌≤◌, Bool, List, [], ◌∷◌, ◌++◌, length, map, refl, ap, ◌∙◌, append_assoc, length-append, arith}
+use Rattle.std.proofs.Common.{◌≡◌, ℕ, ◌≤◌, Bool, List, [], ◌∷◌, ◌++◌, length, map, refl, sym, ap, ◌∙◌, append_assoc, length-append, arith}
 use Rattle.std.specs.List.{flat_map}
 use Rattle.bstr.specs.Owned.{bstring_bytes}
 use Rattle.bstr.specs.declared.bstring.BString.{BString}
@@ -132,12 +132,6 @@ pub bitmaps_parts : (ds : List Directory)
 unfolding bitmaps_bytes
 bitmaps_parts ds = rw (mark_same marks.Valid ds, mark_same marks.CheckOnly ds, mark_same marks.HashValid ds) refl
 
-pub bitmaps_grouped : (ds : List Directory)
-    → (lent_marks marks.Valid ds ++ lent_marks marks.CheckOnly ds) ++ lent_marks marks.HashValid ds
-    ≡ bitmaps_bytes (map directory_value ds)
-bitmaps_grouped ds = append_assoc (lent_marks marks.Valid ds) (lent_marks marks.CheckOnly ds)
-    (lent_marks marks.HashValid ds) ∙ bitmaps_parts ds
-
 stats_same : (ds : List Directory)
     → flat_map (λ d. valid_stat d.stat) (map directory_value ds) ≡ flat_map (λ d. valid_stat d.stat) ds
 stats_same [] = refl
@@ -160,15 +154,24 @@ pub tail_parts : (ds : List Directory)
 unfolding tail_bytes
 tail_parts ds = rw (stats_same ds, ids_same ds) refl
 
-pub tail_behind_stats : (ds : List Directory)
-    → (bitmaps_bytes (map directory_value ds) ++ lent_stats ds) ++ (lent_ids ds ++ 0 ∷ [])
-    ≡ tail_bytes (map directory_value ds)
-tail_behind_stats ds = append_assoc (bitmaps_bytes (map directory_value ds)) (lent_stats ds) (lent_ids ds ++ 0 ∷ [])
-    ∙ tail_parts ds
+-- what stands behind the directories, piece by piece
+abbrev pub tail_pieces : List Directory → List ℕ
+tail_pieces ds =
+    lent_marks marks.Valid ds ++ (lent_marks marks.CheckOnly ds ++ (lent_marks marks.HashValid ds
+    ++ (lent_stats ds ++ (lent_ids ds ++ 0 ∷ []))))
 
-pub tail_behind_ids : (ds : List Directory)
-    → ((bitmaps_bytes (map directory_value ds) ++ lent_stats ds) ++ lent_ids ds) ++ 0 ∷ []
-    ≡ tail_bytes (map directory_value ds)
-tail_behind_ids ds =
-    append_assoc (bitmaps_bytes (map directory_value ds) ++ lent_stats ds) (lent_ids ds) (0 ∷ [])
-    ∙ tail_behind_stats ds
+tail_whole : (ds : List Directory) → tail_pieces ds ≡ tail_bytes (map directory_value ds)
+tail_whole ds =
+    let v = lent_marks marks.Valid ds in
+    let c = lent_marks marks.CheckOnly ds in
+    let h = lent_marks marks.HashValid ds in
+    let rest = lent_stats ds ++ (lent_ids ds ++ 0 ∷ []) in
+    sym (append_assoc v (c ++ h) rest ∙ ap (λ (l : List ℕ). v ++ l) (append_assoc c h rest))
+    ∙ ap (λ (l : List ℕ). l ++ rest) (bitmaps_parts ds) ∙ tail_parts ds
+
+pub directories_whole : (ds : List Directory) → (length ds ≡ 0 → ⊥)
+    → flat_map (λ d. directory_bytes (directory_value d)) ds ++ tail_pieces ds
+    ≡ directories_bytes (map directory_value ds)
+directories_whole ds h =
+    ap (λ (l : List ℕ). flat_map (λ d. directory_bytes (directory_value d)) ds ++ l) (tail_whole ds)
+    ∙ some_directories ds h

@@ -24,15 +24,11 @@ monitor_len m = omega (
 
 -- ---- parts
 
-pub sized_parts : (b : Bitmap) (size : ℕ) → size ≡ length (bitmap_bytes b)
-    → be32 size ++ bitmap_bytes b ≡ sized_bitmap_bytes b
-unfolding sized_bitmap_bytes
-sized_parts b size e = ap (λ (n : ℕ). be32 n ++ bitmap_bytes b) e
-
-pub monitor_parts : (m : Monitor) (version : ℕ) → version ≡ version_of m.token
-    → be32 version ++ (token_bytes m.token ++ sized_bitmap_bytes m.dirty) ≡ monitor_bytes m
-unfolding monitor_bytes
-monitor_parts m version e = ap (λ (n : ℕ). be32 n ++ (token_bytes m.token ++ sized_bitmap_bytes m.dirty)) e
+pub monitor_pieces : (m : Monitor) (version size : ℕ) → version ≡ version_of m.token
+    → size ≡ length (bitmap_bytes m.dirty)
+    → be32 version ++ (token_bytes m.token ++ (be32 size ++ bitmap_bytes m.dirty)) ≡ monitor_bytes m
+unfolding monitor_bytes sized_bitmap_bytes
+monitor_pieces m version size e f = rw (e, f) refl
 
 -- ---- what is written is read
 

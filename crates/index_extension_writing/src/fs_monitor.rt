@@ -1,16 +1,15 @@
 //! Writing what a file system monitor said, and whether it is of the entries (gitformat-index, "File System Monitor
 //! cache").
 
-ghost use Rattle.std.specs.Prelude.{◌≡◌, ◌++◌, ◌+◌, ◌<◌, ◌^◌, false, length};
+ghost use Rattle.std.specs.Prelude.{◌≡◌, ◌+◌, ◌<◌, ◌^◌, false, length};
 ghost use Rattle.index_bitmaps.specs.UnpackingSteps.{items_left};
 ghost use Rattle.index_cached_tree.specs.TreeWriting.{within_32};
 ghost use Rattle.index_extensions.specs.Encoding.{item_bytes};
-ghost use Rattle.index_parts.specs.Numbers.{be32};
 ghost use Rattle.index_parts.specs.Puts.{Puts};
 ghost use Rattle.index_small_extensions.specs.FsMonitor.{monitor_of, token_value};
 ghost use Rattle.index_bitmap_writing.specs.BitmapImage.{bitmap_bytes, lent_bitmap};
 ghost use Rattle.index_extension_writing.specs.MonitorImage.{lent_monitor, monitor_bytes, monitor_item};
-ghost use Rattle.index_extension_writing.specs.MonitorImage.{sized_bitmap_bytes, token_bytes, version_of};
+ghost use Rattle.index_extension_writing.specs.MonitorImage.{token_bytes, version_of};
 ghost use Rattle.index_extension_writing.specs.MonitorPlaces.{are_below, monitor_is_within};
 
 use index_bitmap_writing::ewah;
@@ -50,7 +49,6 @@ fn token_len(token: &Token) -> u64
 
 /// Writes a token.
 fn put_token<W: Out>(token: &Token, out: &mut W) -> io::Result<()>
-    requires { W.failed out.old ≡ false }
     ensures { Puts W.Out out.old out.new result (token_bytes (token_value token.now)) }
 {
     match token {
@@ -59,41 +57,15 @@ fn put_token<W: Out>(token: &Token, out: &mut W) -> io::Result<()>
     }
 }
 
-/// Writes the size of a bitmap, and the bitmap.
-#[tactic(auto, unfolding(crate::specs::MonitorImage::sized_bitmap_bytes))]
-fn put_sized_bitmap<W: Out>(dirty: LentVec<'_>, size: u32, out: &mut W) -> io::Result<()>
-    requires size { size ≡ length (bitmap_bytes (lent_bitmap dirty)) }
-    requires unfailed { W.failed out.old ≡ false }
-    ensures { Puts W.Out out.old out.new result (sized_bitmap_bytes (lent_bitmap dirty.entry)) }
-{
-    put_number(size, out)?;
-    ewah::put(dirty, out)
-}
-
-/// Writes a token, and what stands behind it.
-fn put_behind_version<W: Out>(
-    token: &Token,
-    dirty: LentVec<'_>,
-    size: u32,
-    out: &mut W,
-) -> io::Result<()>
-    requires size { size ≡ length (bitmap_bytes (lent_bitmap dirty)) }
-    requires unfailed { W.failed out.old ≡ false }
-    ensures { Puts W.Out out.old out.new result
-        (token_bytes (token_value token.now) ++ sized_bitmap_bytes (lent_bitmap dirty.entry)) }
-{
-    put_token(token, out)?;
-    put_sized_bitmap(dirty, size, out)
-}
-
 /// Writes the content of the extension, whose bitmap has this size.
 fn put_content<W: Out>(token: &Token, dirty: LentVec<'_>, size: u32, out: &mut W) -> io::Result<()>
     requires size { size ≡ length (bitmap_bytes (lent_bitmap dirty)) }
-    requires unfailed { W.failed out.old ≡ false }
     ensures { Puts W.Out out.old out.new result (monitor_bytes (lent_monitor token.now dirty.entry)) }
 {
     put_number(version_of(token), out)?;
-    put_behind_version(token, dirty, size, out)
+    put_token(token, out)?;
+    put_number(size, out)?;
+    ewah::put(dirty, out)
 }
 
 /// How many bytes the content of the extension has, whose parts are lent.
@@ -111,7 +83,6 @@ fn len_of(token: &Token, dirty: LentVec<'_>) -> Option<u32>
 /// Writes the extension, whose parts are lent, and whose content has this length.
 fn put_parts<W: Out>(token: &Token, dirty: LentVec<'_>, len: u32, out: &mut W) -> io::Result<()>
     requires len { len ≡ length (monitor_bytes (lent_monitor token.now dirty)) }
-    requires unfailed { W.failed out.old ≡ false }
     ensures written { Puts W.Out out.old out.new result
         (item_bytes (monitor_item (lent_monitor token.now dirty.entry))) }
 {
@@ -133,7 +104,6 @@ pub fn content_len(monitor: &FsMonitor) -> Option<u32>
 /// An error comes only where the writer failed, which then took a prefix of the bytes. No memory is taken.
 pub fn put_item<W: Out>(monitor: &FsMonitor, len: u32, out: &mut W) -> io::Result<()>
     requires len { len ≡ length (monitor_bytes (monitor_of monitor.now)) }
-    requires unfailed { W.failed out.old ≡ false }
     ensures written { Puts W.Out out.old out.new result
         (item_bytes (monitor_item (monitor_of monitor.now))) }
 {

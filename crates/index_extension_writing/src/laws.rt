@@ -1,14 +1,10 @@
 //! Laws of the bytes that are written: they are read as the values that they are made of. A law computes nothing.
 
-ghost use Rattle.std.specs.Prelude.{◌≡◌, ◌<◌, ◌≤◌, ◌^◌, ◌++◌, ℕ, Bool, List, All, Ok, Option, length, map, true};
-ghost use Rattle.index_bitmaps.specs.Bitmap.{Bitmap, IsBitmap};
-ghost use Rattle.index_bitmaps.specs.Bits.{ListPlaces};
+ghost use Rattle.std.specs.Prelude.{◌≡◌, ◌<◌, ◌^◌, ℕ, List, All, Option, length, true};
 ghost use Rattle.index_parts.specs.declared.hash.Kind.{Kind};
 ghost use Rattle.index_small_extensions.specs.FsMonitor.{IsMonitor, Monitor};
 ghost use Rattle.index_small_extensions.specs.ResolveUndo.{IsResolveUndo, PathStages};
 ghost use Rattle.index_untracked.specs.Untracked.{Cache, IsCache};
-ghost use Rattle.index_bitmap_writing.specs.BitmapImage.{bitmap_bytes, IsSpellableBitmap};
-ghost use Rattle.index_bitmap_writing.specs.EncodedBitmap.{encoded, set_from};
 ghost use Rattle.index_extension_writing.specs.MonitorImage.{monitor_bytes, IsSpellableMonitor};
 ghost use Rattle.index_extension_writing.specs.ResolveUndoImage.{resolve_undo_bytes, AreSpellablePaths};
 ghost use Rattle.index_extension_writing.specs.SpellableCache.{IsSpellableCache, names_are_some};

@@ -1,6 +1,6 @@
 //! Writing what conflicts were before they were resolved (gitformat-index, "Resolve undo").
 
-ghost use Rattle.std.specs.Prelude.{◌≡◌, ◌++◌, ◌<◌, ◌≤◌, ◌^◌, ◌+◌, ◌-◌, false, drop, length, map};
+ghost use Rattle.std.specs.Prelude.{◌≡◌, ◌++◌, ◌<◌, ◌≤◌, ◌^◌, ◌+◌, ◌-◌, drop, length, map};
 ghost use Rattle.std.specs.List.{flat_map};
 ghost use Rattle.index_cached_tree.specs.TreeWriting.{within_32};
 ghost use Rattle.index_extensions.specs.Encoding.{item_bytes};
@@ -46,7 +46,6 @@ fn stage_mode(stage: &Option<Stage>) -> u32
 
 /// Writes the mode of a stage.
 fn put_mode<W: Out>(stage: &Option<Stage>, out: &mut W) -> io::Result<()>
-    requires { W.failed out.old ≡ false }
     ensures { Puts W.Out out.old out.new result (mode_bytes stage.now) }
 {
     let (digits, start) = octal(stage_mode(stage));
@@ -56,7 +55,6 @@ fn put_mode<W: Out>(stage: &Option<Stage>, out: &mut W) -> io::Result<()>
 
 /// Writes the modes of stages.
 fn put_modes<W: Out>(stages: &[Option<Stage>], out: &mut W) -> io::Result<()>
-    requires { W.failed out.old ≡ false }
     ensures { Puts W.Out out.old out.new result (flat_map mode_bytes stages.now) }
 {
     for stage in stages {
@@ -67,7 +65,6 @@ fn put_modes<W: Out>(stages: &[Option<Stage>], out: &mut W) -> io::Result<()>
 
 /// Writes the id of a stage, where there is one.
 fn put_id<W: Out>(stage: &Option<Stage>, out: &mut W) -> io::Result<()>
-    requires { W.failed out.old ≡ false }
     ensures { Puts W.Out out.old out.new result (stage_id stage.now) }
 {
     match stage {
@@ -78,7 +75,6 @@ fn put_id<W: Out>(stage: &Option<Stage>, out: &mut W) -> io::Result<()>
 
 /// Writes the ids of stages.
 fn put_ids<W: Out>(stages: &[Option<Stage>], out: &mut W) -> io::Result<()>
-    requires { W.failed out.old ≡ false }
     ensures { Puts W.Out out.old out.new result (flat_map stage_id stages.now) }
 {
     for stage in stages {
@@ -89,7 +85,6 @@ fn put_ids<W: Out>(stages: &[Option<Stage>], out: &mut W) -> io::Result<()>
 
 /// Writes stages: their modes, and then their ids.
 fn put_stages<W: Out>(stages: &[Option<Stage>], out: &mut W) -> io::Result<()>
-    requires { W.failed out.old ≡ false }
     ensures { Puts W.Out out.old out.new result
         (flat_map mode_bytes stages.now ++ flat_map stage_id stages.now) }
 {
@@ -99,7 +94,6 @@ fn put_stages<W: Out>(stages: &[Option<Stage>], out: &mut W) -> io::Result<()>
 
 /// Writes a path and its stages.
 fn put_path<W: Out>(path: &ResolvePath, out: &mut W) -> io::Result<()>
-    requires { W.failed out.old ≡ false }
     ensures { Puts W.Out out.old out.new result (path_bytes (path_stages path.now)) }
 {
     put_text(path.name(), out)?;
@@ -108,7 +102,6 @@ fn put_path<W: Out>(path: &ResolvePath, out: &mut W) -> io::Result<()>
 
 /// Writes paths, one after another.
 fn put_paths<W: Out>(paths: &[ResolvePath], out: &mut W) -> io::Result<()>
-    requires { W.failed out.old ≡ false }
     ensures { Puts W.Out out.old out.new result
         (flat_map (λ p. path_bytes (path_stages p)) paths.now) }
 {
@@ -169,7 +162,6 @@ pub fn content_len(paths: &[ResolvePath]) -> Option<u32>
 /// An error comes only where the writer failed, which then took a prefix of the bytes. No memory is taken.
 pub fn put_item<W: Out>(paths: &[ResolvePath], len: u32, out: &mut W) -> io::Result<()>
     requires len { len ≡ length (resolve_undo_bytes (map path_stages paths.now)) }
-    requires unfailed { W.failed out.old ≡ false }
     ensures written { Puts W.Out out.old out.new result
         (item_bytes (resolve_undo_item (map path_stages paths.now))) }
 {

@@ -1,24 +1,21 @@
 //! Writing an untracked cache (gitformat-index, "Untracked cache").
 
-ghost use Rattle.std.specs.Prelude.{◌≡◌, ◌==◌, ◌++◌, ◌<◌, ◌^◌, [], ◌∷◌, false, not, length, map};
+ghost use Rattle.std.specs.Prelude.{◌≡◌, ◌==◌, ◌++◌, ◌<◌, ◌^◌, [], ◌∷◌, not, length, map};
 ghost use Rattle.std.specs.List.{flat_map, list_all};
 ghost use Rattle.bstr.specs.Owned.{bstring_bytes};
-ghost use Rattle.index_cached_tree.specs.TreeWriting.{within_32};
 ghost use Rattle.index_extensions.specs.Encoding.{item_bytes};
 ghost use Rattle.index_parts.specs.Id.{id_bytes};
 ghost use Rattle.index_parts.specs.Puts.{Puts};
 ghost use Rattle.index_untracked.specs.Blocks.{directory_value};
 ghost use Rattle.index_untracked.specs.Untracked.{cache_of};
-ghost use Rattle.index_bitmap_writing.specs.BitmapImage.{bitmap_bytes};
-ghost use Rattle.index_bitmap_writing.specs.EncodedBitmap.{encoded};
 ghost use Rattle.index_extension_writing.specs.SpellableCache.{has_names, names_are_some};
-ghost use Rattle.index_extension_writing.specs.UntrackedImage.{bitmaps_bytes, cache_bytes, cache_item};
+ghost use Rattle.index_extension_writing.specs.UntrackedImage.{cache_bytes, cache_item};
 ghost use Rattle.index_extension_writing.specs.UntrackedImage.{directories_bytes, directory_bytes};
-ghost use Rattle.index_extension_writing.specs.UntrackedImage.{file_id, file_stat, has_mark, preamble_bytes};
-ghost use Rattle.index_extension_writing.specs.UntrackedImage.{start_bytes, stat_bytes, tail_bytes, valid_id, valid_stat};
+ghost use Rattle.index_extension_writing.specs.UntrackedImage.{file_id, file_stat, preamble_bytes};
+ghost use Rattle.index_extension_writing.specs.UntrackedImage.{start_bytes, stat_bytes, valid_id, valid_stat};
 
 use crate::marks::Mark;
-use crate::untracked_sizes;
+pub use crate::untracked_sizes::content_len;
 use bstr::BString;
 use index_bitmap_writing::marks;
 use index_bitmap_writing::pieces::{put_head, put_text};
@@ -76,7 +73,6 @@ pub(crate) fn file_id(kind: Kind, file: &Option<OidStat>) -> ObjectId
 /// Writes what a cache says of itself.
 #[tactic(auto, unfolding(crate::specs::UntrackedImage::preamble_bytes))]
 fn put_preamble<W: Out>(cache: &UntrackedCache, kind: Kind, out: &mut W) -> io::Result<()>
-    requires { W.failed out.old ≡ false }
     ensures { Puts W.Out out.old out.new result (preamble_bytes kind (cache_of cache.now).preamble) }
 {
     let (bytes, start) = encode::offset(cache.identifier().len() as u64);
@@ -98,7 +94,6 @@ fn put_preamble<W: Out>(cache: &UntrackedCache, kind: Kind, out: &mut W) -> io::
 
 /// Writes names, each with a NUL.
 fn put_names<W: Out>(names: &[BString], out: &mut W) -> io::Result<()>
-    requires { W.failed out.old ≡ false }
     ensures { Puts W.Out out.old out.new result
         (flat_map (λ name. bstring_bytes name ++ 0 ∷ []) names.now) }
 {
@@ -110,7 +105,6 @@ fn put_names<W: Out>(names: &[BString], out: &mut W) -> io::Result<()>
 
 /// Writes how many names and directories are in a directory, and its name.
 fn put_start<W: Out>(directory: &Directory, out: &mut W) -> io::Result<()>
-    requires { W.failed out.old ≡ false }
     ensures { Puts W.Out out.old out.new result (start_bytes (directory_value directory.now)) }
 {
     let (bytes, start) = encode::offset(directory.untracked_entries().len() as u64);
@@ -122,7 +116,6 @@ fn put_start<W: Out>(directory: &Directory, out: &mut W) -> io::Result<()>
 
 /// Writes a directory without those in it.
 fn put_directory<W: Out>(directory: &Directory, out: &mut W) -> io::Result<()>
-    requires { W.failed out.old ≡ false }
     ensures { Puts W.Out out.old out.new result (directory_bytes (directory_value directory.now)) }
 {
     put_start(directory, out)?;
@@ -131,7 +124,6 @@ fn put_directory<W: Out>(directory: &Directory, out: &mut W) -> io::Result<()>
 
 /// Writes directories, one behind another.
 fn put_blocks<W: Out>(directories: &[Directory], out: &mut W) -> io::Result<()>
-    requires { W.failed out.old ≡ false }
     ensures { Puts W.Out out.old out.new result
         (flat_map (λ d. directory_bytes (directory_value d)) directories.now) }
 {
@@ -141,21 +133,8 @@ fn put_blocks<W: Out>(directories: &[Directory], out: &mut W) -> io::Result<()>
     Ok(())
 }
 
-/// Writes the three bitmaps.
-fn put_bitmaps<W: Out>(directories: &[Directory], out: &mut W) -> io::Result<()>
-    requires few { length directories.now < 2 ^ 32 }
-    requires unfailed { W.failed out.old ≡ false }
-    ensures { Puts W.Out out.old out.new result
-        (bitmaps_bytes (map directory_value directories.now)) }
-{
-    marks::put(directories, Mark::Valid, out)?;
-    marks::put(directories, Mark::CheckOnly, out)?;
-    marks::put(directories, Mark::HashValid, out)
-}
-
 /// Writes a stat, where it is valid.
 fn put_stat<W: Out>(stat: &Option<Stat>, out: &mut W) -> io::Result<()>
-    requires { W.failed out.old ≡ false }
     ensures { Puts W.Out out.old out.new result (valid_stat stat.now) }
 {
     match stat {
@@ -166,7 +145,6 @@ fn put_stat<W: Out>(stat: &Option<Stat>, out: &mut W) -> io::Result<()>
 
 /// Writes an id, where it is valid.
 fn put_id<W: Out>(id: &Option<ObjectId>, out: &mut W) -> io::Result<()>
-    requires { W.failed out.old ≡ false }
     ensures { Puts W.Out out.old out.new result (valid_id id.now) }
 {
     match id {
@@ -177,7 +155,6 @@ fn put_id<W: Out>(id: &Option<ObjectId>, out: &mut W) -> io::Result<()>
 
 /// Writes the stats of directories that are valid.
 fn put_stats<W: Out>(directories: &[Directory], out: &mut W) -> io::Result<()>
-    requires { W.failed out.old ≡ false }
     ensures { Puts W.Out out.old out.new result (flat_map (λ d. valid_stat d.stat) directories.now) }
 {
     for directory in directories {
@@ -188,7 +165,6 @@ fn put_stats<W: Out>(directories: &[Directory], out: &mut W) -> io::Result<()>
 
 /// Writes the ids of directories that are valid.
 fn put_ids<W: Out>(directories: &[Directory], out: &mut W) -> io::Result<()>
-    requires { W.failed out.old ≡ false }
     ensures { Puts W.Out out.old out.new result
         (flat_map (λ d. valid_id d.exclude_file_oid) directories.now) }
 {
@@ -198,22 +174,9 @@ fn put_ids<W: Out>(directories: &[Directory], out: &mut W) -> io::Result<()>
     Ok(())
 }
 
-/// Writes what stands behind the directories.
-fn put_tail<W: Out>(directories: &[Directory], out: &mut W) -> io::Result<()>
-    requires few { length directories.now < 2 ^ 32 }
-    requires unfailed { W.failed out.old ≡ false }
-    ensures { Puts W.Out out.old out.new result (tail_bytes (map directory_value directories.now)) }
-{
-    put_bitmaps(directories, out)?;
-    put_stats(directories, out)?;
-    put_ids(directories, out)?;
-    out.put(b"\0")
-}
-
-/// Writes directories, and what stands behind them.
+/// Writes directories, and what stands behind them: the three bitmaps, the stats and ids that are valid, and a NUL.
 fn put_directories<W: Out>(directories: &[Directory], out: &mut W) -> io::Result<()>
     requires few { length directories.now < 2 ^ 32 }
-    requires unfailed { W.failed out.old ≡ false }
     ensures { Puts W.Out out.old out.new result
         (directories_bytes (map directory_value directories.now)) }
 {
@@ -221,13 +184,17 @@ fn put_directories<W: Out>(directories: &[Directory], out: &mut W) -> io::Result
         return Ok(());
     }
     put_blocks(directories, out)?;
-    put_tail(directories, out)
+    marks::put(directories, Mark::Valid, out)?;
+    marks::put(directories, Mark::CheckOnly, out)?;
+    marks::put(directories, Mark::HashValid, out)?;
+    put_stats(directories, out)?;
+    put_ids(directories, out)?;
+    out.put(b"\0")
 }
 
 /// Writes the content of the extension.
 fn put_content<W: Out>(cache: &UntrackedCache, kind: Kind, out: &mut W) -> io::Result<()>
     requires few { length (cache_of cache.now).directories < 2 ^ 32 }
-    requires unfailed { W.failed out.old ≡ false }
     ensures { Puts W.Out out.old out.new result (cache_bytes kind (cache_of cache.now)) }
 {
     put_preamble(cache, kind, out)?;
@@ -241,20 +208,11 @@ fn put_content<W: Out>(cache: &UntrackedCache, kind: Kind, out: &mut W) -> io::R
 /// An error comes only where the writer failed, which then took a prefix of the bytes. No memory is taken.
 pub fn put_item<W: Out>(cache: &UntrackedCache, kind: Kind, len: u32, out: &mut W) -> io::Result<()>
     requires len { len ≡ length (cache_bytes kind (cache_of cache.now)) }
-    requires unfailed { W.failed out.old ≡ false }
     ensures written { Puts W.Out out.old out.new result
         (item_bytes (cache_item kind (cache_of cache.now))) }
 {
     put_head(SIGNATURE, len, out)?;
     put_content(cache, kind, out)
-}
-
-/// How many bytes the content of the extension has in a file with ids of this kind; None where it has more than
-/// 2^32 - 1. It takes no memory.
-pub fn content_len(cache: &UntrackedCache, kind: Kind) -> Option<u32>
-    ensures { result ≡ within_32 (length (cache_bytes kind (cache_of cache.now))) }
-{
-    untracked_sizes::content_len(cache, kind)
 }
 
 /// Whether a name has a byte.

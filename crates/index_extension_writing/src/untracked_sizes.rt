@@ -1,15 +1,13 @@
 //! How many bytes an untracked cache has (gitformat-index, "Untracked cache").
 
-ghost use Rattle.std.specs.Prelude.{◌≡◌, ◌++◌, ◌+◌, ◌<◌, ◌≤◌, ◌^◌, length, map};
+ghost use Rattle.std.specs.Prelude.{◌≡◌, ◌+◌, ◌<◌, ◌≤◌, ◌^◌, length, map};
 ghost use Rattle.std.specs.List.{flat_map};
 ghost use Rattle.bstr.specs.Owned.{bstring_bytes};
 ghost use Rattle.index_cached_tree.specs.TreeWriting.{within_32};
 ghost use Rattle.index_parts.specs.Offset.{offset_bytes};
 ghost use Rattle.index_untracked.specs.Blocks.{directory_value};
 ghost use Rattle.index_untracked.specs.Untracked.{cache_of};
-ghost use Rattle.index_bitmap_writing.specs.BitmapImage.{bitmap_bytes};
-ghost use Rattle.index_bitmap_writing.specs.EncodedBitmap.{encoded};
-ghost use Rattle.index_extension_writing.specs.UntrackedImage.{cache_bytes, directories_bytes, has_mark, known_bytes};
+ghost use Rattle.index_extension_writing.specs.UntrackedImage.{cache_bytes, directories_bytes, known_bytes};
 ghost use Rattle.index_extension_writing.specs.UntrackedImage.{names_bytes, preamble_bytes, start_bytes, valid_id, valid_stat};
 
 use crate::marks::Mark;
@@ -155,7 +153,7 @@ fn preamble_len(cache: &UntrackedCache, kind: Kind) -> Option<u32>
 
 /// How many bytes the content of the extension has in a file with ids of this kind; None where it has more than
 /// 2^32 - 1. It takes no memory.
-pub(crate) fn content_len(cache: &UntrackedCache, kind: Kind) -> Option<u32>
+pub fn content_len(cache: &UntrackedCache, kind: Kind) -> Option<u32>
     ensures { result ≡ within_32 (length (cache_bytes kind (cache_of cache.now))) }
 {
     let preamble = preamble_len(cache, kind)?;

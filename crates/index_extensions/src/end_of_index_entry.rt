@@ -1,6 +1,6 @@
 //! The end marker, which names the place where the extensions begin (gitformat-index, "End of Index Entry").
 
-ghost use Rattle.std.specs.Prelude.{◌≡◌, ◌≤◌, ◌+◌, ◌++◌, ℕ, length, codes, List, [], ◌∷◌, false, is_err, IfSome};
+ghost use Rattle.std.specs.Prelude.{◌≡◌, ◌≤◌, ◌+◌, ◌++◌, ℕ, length, codes, List, [], ◌∷◌, IfSome};
 ghost use Rattle.std.specs.Prelude.{IfNone};
 ghost use Rattle.std.specs.List.{flat_map};
 ghost use Rattle.std.specs.Option.{option_map};
@@ -165,7 +165,6 @@ pub fn write_to<W: Out>(
     offset_to_extensions: u32,
     prior_extensions: &[(Signature, u32)],
 ) -> io::Result<()>
-    requires { W.failed out.old ≡ false }
     ensures { Puts W.Out out.old out.new result
         (item_bytes (marker_item object_hash offset_to_extensions
         (heads_bytes prior_extensions.now))) }

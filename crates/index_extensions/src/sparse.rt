@@ -1,6 +1,5 @@
 //! The extension of an index with entries for whole directories (gitformat-index, "Sparse Directory Entries").
 
-ghost use Rattle.std.specs.Prelude.{◌≡◌, false, is_err};
 ghost use Rattle.index_parts.specs.Puts.{Puts};
 ghost use Rattle.index_extensions.specs.Encoding.{item_bytes, sparse_item};
 
@@ -15,7 +14,6 @@ pub const SIGNATURE: Signature = *b"sdir";
 ///
 /// An error comes only where the writer failed, which then took a prefix of the bytes. No memory is taken.
 pub fn write_to<W: Out>(out: &mut W) -> io::Result<()>
-    requires { W.failed out.old ≡ false }
     ensures { Puts W.Out out.old out.new result (item_bytes sparse_item) }
 {
     out.put(b"sdir\0\0\0\0")

@@ -1,5 +1,5 @@
 -- What a command tells of a file, and how it fails that tells (the program's own).
-use Rattle.std.specs.Prelude.{◌≡◌, ◌≢◌, ◌⊎◌, ℕ, Bool, true, List, Option, Result, IfErr, OnOk}
+use Rattle.std.specs.Prelude.{◌≡◌, ◌≢◌, ◌⊎◌, ℕ, false, true, List, Option, Result, IfErr, OnOk}
 use Rattle.std.specs.Borrow.{Bor}
 use Rattle.std.specs.Io.KnownBytes.{Appends, Keeps}
 use Rattle.std.specs.IoError.{error_kind}
@@ -31,23 +31,23 @@ NoText offset e text = ⊥
 abbrev pub AnyText : (List ℕ → Type 0) → (ℕ → Error → List ℕ → Type 0) → List ℕ → Type 0
 AnyText Text Damaged text = Text text ⊎ ((offset : ℕ) × (e : Error) × Damaged offset e text)
 
--- An output that failed took a part of what is told, and so it did where memory was short for what is told. Of a damaged
--- file all is told, with the fault, where it stands and the file. With any other failure, which is one of these, the
--- output took nothing.
+-- With an error of the output it took a part of what is told, and has failed unless memory was short. Of a damaged file
+-- all is told, with the fault, where it stands and the file. With any other failure, which is one of these, the output
+-- took nothing.
 pub data FailsTelling (Text : List ℕ → Type 0) (Damaged : ℕ → Error → List ℕ → Type 0) (Fault : Failure → Type 0)
-    (path : List ℕ) (failure : Failure) (failed : Bool) (old new : Option (List ℕ)) : Type 0 where
-  part : (e : IoError) → failure ≡ failures.Output e → (error_kind e ≢ OutOfMemory → failed ≡ true)
+    (path : List ℕ) (failure : Failure) (Failed : Type 0) (old new : Option (List ℕ)) : Type 0 where
+  part : (e : IoError) → failure ≡ failures.Output e → (error_kind e ≢ OutOfMemory → Failed)
       → TellsPart (AnyText Text Damaged) old new
-      → FailsTelling Text Damaged Fault path failure failed old new
+      → FailsTelling Text Damaged Fault path failure Failed old new
   whole : (file : Bor (List ℕ)) (offset : ℕ) (e : Error) → failure ≡ failures.Damaged file offset e → file.now ≡ path
-      → Tells (Damaged offset e) old new → FailsTelling Text Damaged Fault path failure failed old new
-  untold : Fault failure → Keeps old new → FailsTelling Text Damaged Fault path failure failed old new
+      → Tells (Damaged offset e) old new → FailsTelling Text Damaged Fault path failure Failed old new
+  untold : Fault failure → Keeps old new → FailsTelling Text Damaged Fault path failure Failed old new
 
 -- How a command ends that tells of the file at a path: the output took such a text; or the failure is one of these, and
--- the output took what it says.
+-- the output took what it says. That it has failed is said of one that hadn't before.
 pub record EndsTelling {T : Type 0} (writer : Ghosts T) (old new : T) (Text : List ℕ → Type 0)
     (Damaged : ℕ → Error → List ℕ → Type 0) (Fault : Failure → Type 0) (path : List ℕ)
     (answer : Result (Unit {0}) Failure) : Type 0 where
   pub told : OnOk answer (Tells Text (writer.taken old) (writer.taken new))
-  pub refused : IfErr answer (λ failure. FailsTelling Text Damaged Fault path failure (writer.failed new)
-      (writer.taken old) (writer.taken new))
+  pub refused : IfErr answer (λ failure. FailsTelling Text Damaged Fault path failure
+      (writer.failed old ≡ false → writer.failed new ≡ true) (writer.taken old) (writer.taken new))

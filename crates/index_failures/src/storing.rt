@@ -1,7 +1,5 @@
 //! The file that a command writes: its lock, and the index that takes its place.
 
-ghost use Rattle.gix_index.specs.File.{state_of};
-ghost use Rattle.gix_index.specs.State.{PathsInStorage};
 ghost use Rattle.index_failures.specs.Calls.{CommitsIndex, LocksTarget};
 
 use crate::failure::Failure;
@@ -42,7 +40,6 @@ pub fn commit_at<'a, D: Folder>(
     version: VersionChoice,
     to: &'a str,
 ) -> Result<(), Failure<'a>>
-    requires placed { PathsInStorage (state_of index) }
     ensures { CommitsIndex D.Folder D.Made.contents folder.old folder.new lock index version
         to.now result }
 {

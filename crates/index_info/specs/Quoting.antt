@@ -1,7 +1,8 @@
 -- Paths in double quotes, spelled as a string of C (git-config, `core.quotePath`; git-update-index, "USING
 -- --INDEX-INFO").
 use Rattle.std.specs.Prelude.{ℕ, zero, suc, ◌+◌, ◌-◌, ◌*◌, ◌==◌, ◌&&◌, nat_le, List, [], ◌∷◌, length, Option, Some, None}
-use Rattle.std.specs.Prelude.{codes, option_map, if◌then◌else◌}
+use Rattle.std.specs.Prelude.{◌≡◌, ◌<◌, IfSome, codes, option_map, if◌then◌else◌}
+use Rattle.std.specs.Borrow.{Bor}
 use Rattle.std.specs.Option.{option_or}
 use Rattle.std.specs.Str.{byte, bytes_eq}
 use Rattle.index_info.specs.Mode.{is_octal}
@@ -9,6 +10,11 @@ use Rattle.index_info.specs.Mode.{is_octal}
 -- a byte that a text begins with, and what stands behind it
 abbrev pub Front : Type 0
 Front = Option (ℕ × List ℕ)
+
+-- it is read off a text, and less of that stands behind it; or nothing is
+pub record TakesFront (told : Front) (text : List ℕ) (r : Option (ℕ × Bor (List ℕ))) : Type 0 where
+  pub front : option_map (λ p. (p.0, p.1.now)) r ≡ told
+  pub less : IfSome r (λ p. length p.1.now < length text)
 
 -- what a character stands for behind a backslash: a bell, a backspace, a tab, a newline, a vertical tab, a form feed, a
 -- carriage return, or itself

@@ -1,7 +1,7 @@
 //! Paths that stand in double quotes, as git quotes them.
 
-ghost use Rattle.std.specs.Prelude.{◌≡◌, ◌<◌, ◌∷◌, [], IfOk, IfSome, MatchOption, None, Some, length, option_map};
-ghost use Rattle.index_info.specs.Quoting.{escaped_front, front_of, octal_front, unquoted, value_of_letter};
+ghost use Rattle.std.specs.Prelude.{◌≡◌, ◌∷◌, [], IfOk, MatchOption, None, Some, option_map};
+ghost use Rattle.index_info.specs.Quoting.{TakesFront, escaped_front, front_of, octal_front, unquoted, value_of_letter};
 
 use crate::mode::is_octal;
 use std::alloc::{AllocError, Global};
@@ -26,8 +26,7 @@ fn value_of_letter(letter: u8) -> Option<u8>
 
 /// The byte of three octal digits, of which the first is at most 3, and the text behind them.
 fn octal_front(text: &[u8]) -> Option<(u8, &[u8])>
-    ensures front { option_map (λ p. (p.0, p.1.now)) result ≡ octal_front text.now }
-    ensures less { IfSome result (λ p. length p.1.now < length text.now) }
+    ensures { TakesFront (octal_front text.now) text.now result }
 {
     let [a, b, c, rest @ ..] = text else {
         return None;
@@ -40,8 +39,7 @@ fn octal_front(text: &[u8]) -> Option<(u8, &[u8])>
 
 /// The byte that stands behind a backslash, and the text behind it.
 fn escaped_front(text: &[u8]) -> Option<(u8, &[u8])>
-    ensures front { option_map (λ p. (p.0, p.1.now)) result ≡ escaped_front text.now }
-    ensures less { IfSome result (λ p. length p.1.now < length text.now) }
+    ensures { TakesFront (escaped_front text.now) text.now result }
 {
     let [letter, rest @ ..] = text else {
         return None;
@@ -54,8 +52,7 @@ fn escaped_front(text: &[u8]) -> Option<(u8, &[u8])>
 
 /// The byte that stands at the front of a text between double quotes, and the text behind it.
 fn front_of(text: &[u8]) -> Option<(u8, &[u8])>
-    ensures front { option_map (λ p. (p.0, p.1.now)) result ≡ front_of text.now }
-    ensures less { IfSome result (λ p. length p.1.now < length text.now) }
+    ensures { TakesFront (front_of text.now) text.now result }
 {
     let [byte, rest @ ..] = text else {
         return None;

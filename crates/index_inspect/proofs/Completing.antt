@@ -105,9 +105,9 @@ marked_contents old new kind time storage entries outcome sparse is a b c d e f 
 -- ---- what becomes of one
 
 pub stays : (link : Option LinkValue) (found : Bool) (shared : Option Contents) (own : State) (fate : SharedEntries)
-    → IsPlainIndex own → IsCompleted link found shared (records own) (records own) fate
+    → IsCompleted link found shared (records own) (records own) fate
     → Completes link found shared own (record { state = own; shared = fate })
-stays link found shared own fate h is = record { is = is; same_kind = refl; index = index_of own h }
+stays link found shared own fate is = record { is = is; same_kind = refl; index = index_of own }
 
 merged_others : (b : Option BitmapPair) (shared old new : Contents) → MergesBy b shared old new
     → new ≡ with_records old new.records
@@ -115,33 +115,33 @@ merged_others None shared old new e = subst (λ (c : Contents). c ≡ with_recor
 merged_others (Some b) shared old new h = h.others
 
 pub joins : (l : LinkValue) (found : Bool) (own new shared : State) → is_null (id_bytes l.shared) ≡ false
-    → IsPlainIndex own → CanBeShared own shared → IsDissolved l (contents shared) (contents own) (contents new)
-    → PathsInStorage new
+    → CanBeShared own shared → IsDissolved l (contents shared) (contents own) (contents new)
+    → (PathsInStorage own → PathsInStorage new)
     → (IsStorable (contents own) → IsStorable (contents shared) → (contents shared).kind ≡ (contents own).kind
     → IsStorable (contents new))
     → Completes (Some l) found (Some (contents shared)) own (record { state = new; shared = fates.Merged })
-joins l found own new shared named h fits d placed storable =
+joins l found own new shared named fits d placed storable =
     let e : contents new ≡ with_records (contents own) (records new) =
     merged_others l.bitmaps (contents shared) (contents own) (contents new) d.merged in
     record {
       is = merged l (contents shared) (contents own) (refl, named) refl
           (subst (λ (c : Contents). IsDissolved l (contents shared) (contents own) c) e d) refl;
       same_kind = ap (λ (c : Contents). c.kind) e;
-      index = index_moved own new e h placed (storable h.storable fits.storable fits.same_kind);
+      index = λ h. index_moved own new e h (placed h.placed) (storable h.storable fits.storable fits.same_kind);
     }
 
 pub fits_not : (l : LinkValue) (found : Bool) (own new shared : State) (fault : LinkFault)
-    → is_null (id_bytes l.shared) ≡ false → IsPlainIndex own
-    → IsDissolveFault l (contents shared) (contents own) fault → IsUnchanged own new → PathsInStorage new
+    → is_null (id_bytes l.shared) ≡ false → IsDissolveFault l (contents shared) (contents own) fault
+    → IsUnchanged own new → (PathsInStorage own → PathsInStorage new)
     → Completes (Some l) found (Some (contents shared)) own (record { state = new; shared = fates.Missing })
-fits_not l found own new shared fault named h is_fault u placed =
+fits_not l found own new shared fault named is_fault u placed =
     let same : records new ≡ records own = ap (λ (c : Contents). c.records) u.same_contents in
     let e : contents new ≡ with_records (contents own) (records new) =
     u.same_contents ∙ ap (λ (rs : List Record). with_records (contents own) rs) (sym same) in
     record {
       is = unfit l (contents shared) (contents own) fault (refl, named) refl is_fault same refl;
       same_kind = ap (λ (c : Contents). c.kind) u.same_contents;
-      index = index_moved own new e h placed (subst IsStorable (sym u.same_contents) h.storable);
+      index = λ h. index_moved own new e h (placed h.placed) (subst IsStorable (sym u.same_contents) h.storable);
     }
 
 -- ---- where memory is asked for

@@ -1,11 +1,14 @@
 -- The last link among parts, and where it lies.
 use Rattle.std.proofs.Common.{◌≡◌, ℕ, ◌+◌, ◌≤◌, ◌<◌, Bool, true, false, List, [], ◌∷◌, ◌++◌, length, take, get_or}
 use Rattle.std.proofs.Common.{Option, Some, None, refl, sym, ap, subst, ◌∙◌, arith}
+use Rattle.std.specs.Option.{option_map}
 use Rattle.std.specs.Prelude.{if◌then◌else◌}
 use Rattle.std.proofs.lemmas.List.{take_more}
-use Rattle.gix_index.specs.ExtensionValue.{or_else}
+use Rattle.gix_index.specs.ExtensionValue.{IsValue, or_else}
+use Rattle.gix_index.specs.Kind.{Kind}
+use Rattle.gix_index.specs.Link.{IsLink}
 use Rattle.index_map.specs.Piece.{LieBetween}
-use Rattle.index_inspect.specs.Remains.{is_link_content, last_link}
+use Rattle.index_inspect.specs.Remains.{is_link_content, last_link, link_content, part_bytes}
 use Rattle.index_map.specs.declared.part.Part.{Part}
 
 -- the part, where it is the content of a link
@@ -75,3 +78,12 @@ link_within place end (q ∷ ps) p h e =
         let here : q.offset + q.len ≤ end = omega (arith, h.0, lie_up (place + q.len) end ps h.1) in
         subst (λ (r : Part). r.offset + r.len ≤ end) own here
     by None false more is same = absurd cc
+
+-- a part that is the last content of a link and spells none
+pub none_spelled : (kind : Kind) (bytes content : List ℕ) (parts : List Part) (p : Part)
+    → content ≡ part_bytes bytes p → last_link parts ≡ Some p → IsValue (IsLink kind) (Some content) None
+    → IsValue (IsLink kind) (link_content bytes parts) None
+none_spelled kind bytes content parts p is last none =
+    let whole : Some content ≡ link_content bytes parts =
+    ap Some is ∙ sym (ap (option_map (part_bytes bytes)) last) in
+    subst (λ (o : Option (List ℕ)). IsValue (IsLink kind) o None) whole none

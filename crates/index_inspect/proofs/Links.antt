@@ -1,12 +1,11 @@
 -- What is wrong with an extension, by what is wrong with the content of a link.
-use Rattle.std.proofs.Common.{◌≡◌, true, List, ℕ, Option, Some, None, Result, refl}
-use Rattle.std.specs.Prelude.{IfOk, MatchOption, codes, nat_eq}
+use Rattle.std.proofs.Common.{◌≡◌, true, List, ℕ, Option, Some, None, refl}
+use Rattle.std.specs.Prelude.{MatchOption, codes, nat_eq}
 use Rattle.std.specs.Cmp.Lexicographic.{pointwise}
 use Rattle.gix_index.specs.ExtensionError.{Extension}
 use Rattle.gix_index.specs.Kind.{Kind}
 use Rattle.gix_index.specs.Outcome.{ExtensionFault, IsFault, Link, broken_link, is_understood, unknown}
 use Rattle.gix_index.specs.Walk.{Item}
-use Rattle.index_inspect.proofs.Divided.{if_ok_then}
 use Rattle.index_inspect.specs.ItemSteps.{IsSoundItem, IsSoundLink, TellsItem, TellsLink}
 
 sound_by : (kind : Kind) (i : Item) (fault : ExtensionFault) → is_understood i.signature i.content ≡ true
@@ -14,17 +13,10 @@ sound_by : (kind : Kind) (i : Item) (fault : ExtensionFault) → is_understood i
 sound_by kind i fault u s (unknown n f) = absurd cc
 sound_by kind i fault u s (broken_link f named h e) = s f h
 
-link_item : (kind : Kind) (signature content : List ℕ) (o : Option Extension) → is_understood signature content ≡ true
+pub link_item : (kind : Kind) (signature content : List ℕ) (o : Option Extension) → is_understood signature content ≡ true
     → pointwise nat_eq signature (codes "link") ≡ true
     → MatchOption o (IsSoundLink kind content) (TellsLink kind content)
     → MatchOption o (IsSoundItem kind signature content) (TellsItem kind signature content)
 link_item kind signature content None u named h =
     λ size fault f. sound_by kind (record { signature = signature; size = size; content = content }) fault u h f
 link_item kind signature content (Some e) u named h = λ size. (Link h.0, (h.1.0, broken_link h.0 named h.1.1 refl))
-
-pub link_item_of : {E : Type 0} (kind : Kind) (signature content : List ℕ) (r : Result (Option Extension) E)
-    → is_understood signature content ≡ true → pointwise nat_eq signature (codes "link") ≡ true
-    → IfOk r (λ o. MatchOption o (IsSoundLink kind content) (TellsLink kind content))
-    → IfOk r (λ o. MatchOption o (IsSoundItem kind signature content) (TellsItem kind signature content))
-link_item_of kind signature content r u named h =
-    if_ok_then r _ _ h (λ o p. link_item kind signature content o u named p)

@@ -1,14 +1,13 @@
 -- Bytes are divided in one way.
-use Rattle.std.proofs.Common.{◌≡◌, ◌≢◌, ◌⊎◌, inl, inr, ℕ, ◌+◌, ◌<◌, Bool, true, false, List, [], ◌∷◌, ◌++◌, length}
-use Rattle.std.proofs.Common.{All, drop, take, Option, Some, None, Result, Ok, Err, refl, sym, ap, subst, ◌∙◌}
+use Rattle.std.proofs.Common.{◌≡◌, inl, inr, ℕ, ◌<◌, Bool, true, false, List, [], ◌∷◌, ◌++◌, length}
+use Rattle.std.proofs.Common.{drop, take, Option, Some, None, Result, Ok, Err, refl, sym, ap, subst, ◌∙◌}
 use Rattle.std.proofs.Common.{arith, length-append}
 use Rattle.std.specs.Prelude.{MatchBool, nat_lt}
 use Rattle.std.proofs.lemmas.List.Elements.{All-head, All-tail}
 use Rattle.gix_index.proofs.MarkerReadings.{marker_reading_one}
 use Rattle.gix_index.proofs.Outcomes.{one_fault}
 use Rattle.gix_index.specs.Answer.{Fault, Extension, Header}
-use Rattle.gix_index.specs.EndMarker.{IsMarker}
-use Rattle.gix_index.specs.Header.{HeaderFault, count_of, header_len, header_of}
+use Rattle.gix_index.specs.Header.{HeaderFault, count_of, header_len}
 use Rattle.gix_index.specs.Id.{id_len}
 use Rattle.gix_index.specs.Intact.{IsBroken, IsIntact, needs_check}
 use Rattle.gix_index.specs.Kind.{Kind}
@@ -16,7 +15,7 @@ use Rattle.gix_index.specs.Limits.{most_entries}
 use Rattle.gix_index.specs.Outcome.{AreSound, ExtensionFault, IsFault}
 use Rattle.gix_index.specs.Record.{Record}
 use Rattle.gix_index.specs.Version.{Version}
-use Rattle.gix_index.specs.Walk.{Item, AreItems, IsItem, NoItem}
+use Rattle.gix_index.specs.Walk.{Item, AreItems, IsItem}
 use Rattle.index_extensions.proofs.Items.{one_item}
 use Rattle.index_inspect.specs.Division.{IsBehindEntries, IsCrowded, IsDivided, IsFileEnd, lacks, crowded, short}
 use Rattle.index_inspect.specs.Division.{walked, faulty, left, broken, whole, headless, headed}

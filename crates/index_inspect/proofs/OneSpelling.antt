@@ -1,9 +1,8 @@
 -- Bytes are spelled as entries in one way.
-use Rattle.std.proofs.Common.{◌≡◌, ◌⊎◌, inl, inr, ℕ, ◌+◌, ◌<◌, List, [], ◌∷◌, ◌++◌, length, drop, Option, Some, None}
+use Rattle.std.proofs.Common.{◌≡◌, ◌⊎◌, inl, inr, ℕ, ◌+◌, ◌<◌, List, [], ◌∷◌, ◌++◌, length, Option, Some, None}
 use Rattle.std.proofs.Common.{refl, sym, ap, subst, ◌∙◌, length-append, arith}
 use Rattle.std.proofs.lemmas.List.{append_cancel_right, length-map}
 use Rattle.gix_index.specs.Entries.{LacksEntry}
-use Rattle.gix_index.specs.Header.{header_len}
 use Rattle.gix_index.specs.Kind.{Kind}
 use Rattle.gix_index.specs.Record.{Record}
 use Rattle.gix_index.specs.Version.{Version}

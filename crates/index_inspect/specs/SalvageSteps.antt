@@ -11,7 +11,7 @@ use Rattle.gix_index.specs.Record.{Record}
 use Rattle.gix_index.specs.State.{PathsInStorage, contents, records}
 use Rattle.gix_index.specs.StateType.{State}
 use Rattle.gix_index.specs.Storable.{IsStorable}
-use Rattle.index_inspect.specs.Remains.{with_mark}
+use Rattle.index_inspect.specs.Remains.{IsPlainIndex, with_mark}
 use Rattle.index_inspect.specs.Salvage.{IsCompleted, IsSavedOf}
 use Rattle.index_inspect.specs.declared.salvage.Completed.{Completed}
 
@@ -24,12 +24,16 @@ pub record IsIndexOf (kind : Kind) (rs : List Record) (s : State) : Type 0 where
   pub placed : PathsInStorage s
   pub storable : IsStorable (contents s)
 
+-- where a state is an index of its entries, it became one of others, of the same kind
+abbrev pub StaysIndex : State → State → Type 0
+StaysIndex old new = IsIndexOf (contents old).kind (records old) old → IsIndexOf (contents old).kind (records new) new
+
 -- an index of the entries of a file became one of those that are saved of, of the same kind
 pub record Completes (link : Option LinkValue) (found : Bool) (shared : Option Contents) (own : State) (c : Completed)
     : Type 0 where
   pub is : IsCompleted link found shared (records own) (records c.state) c.shared
   pub same_kind : (contents c.state).kind ≡ (contents own).kind
-  pub index : IsIndexOf (contents own).kind (records c.state) c.state
+  pub index : IsPlainIndex own → IsIndexOf (contents own).kind (records c.state) c.state
 
 -- the record at a place has a path, and stands above the last of the first ones, so many of which are kept
 abbrev pub IsAbove : List Record → ℕ → ℕ → Type 0

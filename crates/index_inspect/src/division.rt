@@ -1,6 +1,6 @@
 //! A whole file, part by part.
 
-ghost use Rattle.std.specs.Prelude.{◌≡◌, ◌≤◌, ◌<◌, ◌+◌, ◌++◌, [], List, length, Some, Ok, Err, IfOk};
+ghost use Rattle.std.specs.Prelude.{◌≡◌, ◌≤◌, ◌<◌, ◌+◌, ◌-◌, ◌++◌, [], List, length, Some, Ok, Err, IfOk, false};
 ghost use Rattle.gix_index.specs.Header.{count_of, header_of};
 ghost use Rattle.gix_index.specs.HeaderErrors.{header_fault};
 ghost use Rattle.gix_index.specs.Id.{id_len};
@@ -120,8 +120,7 @@ fn walk_ending(
 
 /// Whether the header declares more entries than a file of this length can hold.
 fn is_crowded(kind: Kind, version: Version, declared: u32, bytes: &[u8]) -> bool
-    requires { declared ≡ count_of bytes.now }
-    ensures { IsCrowded kind version bytes.now result }
+    ensures { declared ≡ count_of bytes.now → IsCrowded kind version bytes.now result }
 {
     let offset = end_of_index_entry::decode(bytes, kind);
     declared as usize > max_entries_possible(bytes.len(), offset, kind, version)
@@ -135,23 +134,23 @@ struct Found {
     read: usize,
 }
 
-/// The parts with those behind the entries, of which the first begins at an offset.
+/// The parts with those behind the entries, where these bytes are left of a file.
 fn behind_entries(
     alloc: Global,
     kind: Kind,
     found: Found,
     bytes: &[u8],
     after: &[u8],
-    offset: usize,
     parts: Vec<Part>,
 ) -> Result<Ending, AllocError>
-    requires room { offset + length after.now ≤ 0xffffffffffffffff }
     requires declared { found.declared ≡ count_of bytes.now }
     requires read { found.read ≤ found.declared }
     ensures { IfOk result (λ e. (spellings : List Spelling) → length spellings ≡ found.read
         → (found.read < found.declared → NoEntryBehind found.version kind spellings after.now)
-        → GoesOn kind found.version bytes.now spellings after.now offset parts.items e) }
+        → GoesOn kind found.version bytes.now spellings after.now
+        (length bytes.now - length after.now) parts.items e) }
 {
+    let offset = bytes.len().saturating_sub(after.len());
     let Found {
         version,
         declared,
@@ -211,14 +210,13 @@ pub fn divide(alloc: Global, kind: Kind, bytes: &[u8]) -> Result<Division, Alloc
         entries,
         rest,
     } = read_front(alloc, version, kind, declared, bytes)?;
-    let offset = bytes.len() - rest.len();
     let read = entries.as_slice().len();
     let found = Found {
         version,
         declared,
         read,
     };
-    let Ending { parts, fault } = behind_entries(alloc, kind, found, bytes, rest, offset, parts)?;
+    let Ending { parts, fault } = behind_entries(alloc, kind, found, bytes, rest, parts)?;
     Ok(Division {
         parts,
         entries,
@@ -233,16 +231,24 @@ fn with_room(
     kind: Kind,
     count: u32,
     bytes: &[u8],
-) -> Result<EntryList, AllocError>
-    ensures { IfOk result (λ l. l ≡ record { records = []; storage = [] }) }
+) -> Result<FirstEntries, AllocError>
+    ensures { IfOk result (λ first. (first.list ≡ record { records = []; storage = [] })
+        × (first.sparse ≡ false)) }
 {
     let offset = end_of_index_entry::decode(bytes, kind);
     let len = bytes.len();
     if count as usize > max_entries_possible(len, offset, kind, version) {
-        return Ok(EntryList::new(alloc));
+        return Ok(FirstEntries {
+            list: EntryList::new(alloc),
+            sparse: false,
+        });
     }
     let paths = estimate_path_storage_requirements_in_bytes(count, len, offset, kind, version);
-    EntryList::with_capacity(alloc, count as usize, paths)
+    let list = EntryList::with_capacity(alloc, count as usize, paths)?;
+    Ok(FirstEntries {
+        list,
+        sparse: false,
+    })
 }
 
 /// The entries and the first fault that [`divide`] finds behind this header, and its parts behind the entries.
@@ -258,22 +264,17 @@ pub(crate) fn divide_ending(
     ensures { IfOk result
         (λ d. EndsDivision kind bytes.now d.entries.records d.parts.items d.fault) }
 {
-    let list = with_room(alloc, version, kind, declared, bytes)?;
-    let mut first = FirstEntries {
-        list,
-        sparse: false,
-    };
+    let mut first = with_room(alloc, version, kind, declared, bytes)?;
     let (_, behind) = bytes.split_at(HEADER_LEN);
     let rest = entries_in(version, kind, declared, &mut first, behind)?;
     let entries = first.list;
-    let offset = bytes.len() - rest.len();
     let found = Found {
         version,
         declared,
         read: entries.len(),
     };
     let none = Vec::new(alloc);
-    let Ending { parts, fault } = behind_entries(alloc, kind, found, bytes, rest, offset, none)?;
+    let Ending { parts, fault } = behind_entries(alloc, kind, found, bytes, rest, none)?;
     Ok(Division {
         parts,
         entries,

@@ -4,7 +4,7 @@ ghost use Rattle.std.specs.Prelude.{◌≡◌, ◌≤◌, ◌+◌, ℕ, List, le
 ghost use Rattle.gix_index.specs.Kind.{Kind as KindType};
 ghost use Rattle.gix_index.specs.Link.{HasDelete, SaysLink};
 ghost use Rattle.gix_index.specs.LinkError.TheVariants.{Memory};
-ghost use Rattle.index_inspect.specs.ItemSteps.{IsWalked, IsSoundItem, IsSoundLink, TellsItem, TellsLink};
+ghost use Rattle.index_inspect.specs.ItemSteps.{IsWalked, IsSoundItem, TellsItem, TellsLink};
 
 use gix_index::decode::Error;
 use gix_index::extension::decode::Error as ExtensionError;
@@ -42,22 +42,6 @@ fn told(e: link::decode::Error) -> Result<ExtensionError, AllocError>
     }
 }
 
-/// What is wrong with the content of a link, if anything.
-fn link_fault(
-    alloc: Global,
-    kind: Kind,
-    content: &[u8],
-) -> Result<Option<ExtensionError>, AllocError>
-    ensures fault { IfOk result
-        (λ fault. MatchOption fault (IsSoundLink kind content.now) (TellsLink kind content.now)) }
-    ensures memory { IfErr result (λ _. HasDelete kind content.now) }
-{
-    let Err(e) = link::decode::decode(alloc, content, kind) else {
-        return Ok(None);
-    };
-    Ok(Some(told(e)?))
-}
-
 /// What is wrong with an extension, if anything.
 fn fault_of(
     alloc: Global,
@@ -75,7 +59,10 @@ fn fault_of(
     if signature != link::SIGNATURE {
         return Ok(None);
     }
-    link_fault(alloc, kind, content)
+    let Err(e) = link::decode::decode(alloc, content, kind) else {
+        return Ok(None);
+    };
+    Ok(Some(told(e)?))
 }
 
 /// Puts the parts of extensions at the end, the first of which begins at an offset, up to the first at fault.

@@ -86,10 +86,9 @@ impl Remains {
 
 /// The index with the mark of a sparse one where an entry stands for a directory, and without it where none does.
 pub(crate) fn marked(state: State) -> State
-    requires { IsIndexOf (contents state).kind (records state) state }
     ensures records { records result ≡ records state }
     ensures kind { (contents result).kind ≡ (contents state).kind }
-    ensures plain { IsPlainIndex result }
+    ensures plain { IsIndexOf (contents state).kind (records state) state → IsPlainIndex result }
 {
     let mut extensions = Outcome::none();
     extensions.is_sparse = state.entries().iter().any(|entry| entry.mode.is_sparse());
@@ -177,20 +176,6 @@ fn last_link(parts: &[Part]) -> Option<Part>
     found
 }
 
-/// The link that a content spells, if it spells one.
-fn link_at(alloc: Global, kind: Kind, content: &[u8]) -> Result<Option<Link>, AllocError>
-    ensures link { IfOk result
-        (λ link. IsValue (IsLink kind) (Some content.now) (option_map link_of link)) }
-    ensures memory { IfErr result (λ _. HasDelete kind content.now) }
-{
-    match link::decode::decode(alloc, content, kind) {
-        Ok(link) => Ok(Some(link)),
-        Err(link::decode::Error::Corrupt(_)) => Ok(None),
-        Err(link::decode::Error::BitmapDecode { .. }) => Ok(None),
-        Err(link::decode::Error::Memory) => Err(AllocError),
-    }
-}
-
 /// The link that stands whole among the parts of these bytes, if one does.
 fn link_in(
     alloc: Global,
@@ -209,7 +194,12 @@ fn link_in(
     };
     let (_, behind) = bytes.split_at(part.offset);
     let (content, _) = behind.split_at(part.len);
-    link_at(alloc, kind, content)
+    match link::decode::decode(alloc, content, kind) {
+        Ok(link) => Ok(Some(link)),
+        Err(link::decode::Error::Corrupt(_)) => Ok(None),
+        Err(link::decode::Error::BitmapDecode { .. }) => Ok(None),
+        Err(link::decode::Error::Memory) => Err(AllocError),
+    }
 }
 
 /// What can be read of a file that has ids of this kind: the entries from the first on, up to the first that can't be

@@ -1,16 +1,16 @@
 //! What can be saved of a damaged index file.
 
-ghost use Rattle.std.specs.Prelude.{◌≡◌, ◌<◌, ◌≤◌, ◌+◌, ◌↔◌, All, Bool, List, IfErr, IfOk, IfSome, IsTrue, Some, false, length};
+ghost use Rattle.std.specs.Prelude.{◌≡◌, ◌<◌, ◌≤◌, ◌↔◌, All, Bool, IfErr, IfOk, IfSome, IsTrue, Some, false, length};
 ghost use Rattle.std.specs.Option.{option_map};
 ghost use Rattle.gix_index.specs.Id.{id_bytes, is_null};
 ghost use Rattle.gix_index.specs.Link.{link_of};
-ghost use Rattle.gix_index.specs.Record.{IsPlaced, Record, records_in};
+ghost use Rattle.gix_index.specs.Record.{IsPlaced, records_in};
 ghost use Rattle.gix_index.specs.Sorted.{IsOrdered};
 ghost use Rattle.gix_index.specs.State.{contents, records};
 ghost use Rattle.index_inspect.specs.Laws.{AreWhole};
 ghost use Rattle.index_inspect.specs.Remains.{IsPlainIndex};
 ghost use Rattle.index_inspect.specs.Salvage.{CanBeShared, IsSavedOf, MergesByBitmaps, MergesOrSorts, Saves};
-ghost use Rattle.index_inspect.specs.SalvageSteps.{AreKept, Completes, IsAbove, IsIndexOf};
+ghost use Rattle.index_inspect.specs.SalvageSteps.{Completes, IsAbove, StaysIndex};
 
 use crate::remains::{FirstFault, Remains, marked};
 use gix_index::decode::entry::EntrySlice;
@@ -67,7 +67,6 @@ struct Completed {
 /// asked for where the link has bitmaps, and the shared index has no link of its own.
 fn joined(alloc: Global, link: Link, mut own: State, shared: State) -> Result<Completed, AllocError>
     requires named { is_null (id_bytes link.shared_index_checksum) ≡ false }
-    requires plain { IsPlainIndex own }
     requires shared { CanBeShared own shared }
     ensures completed { IfOk result (λ c. (found : Bool)
         → Completes (Some (link_of link)) found (Some (contents shared)) own c) }
@@ -105,8 +104,7 @@ fn with_shared(
     own: State,
     shared: Option<State>,
 ) -> Result<Completed, AllocError>
-    requires plain { IsPlainIndex own }
-    requires shared { IfSome shared (CanBeShared own) }
+    requires { IfSome shared (CanBeShared own) }
     ensures completed { IfOk result
         (Completes (option_map link_of link) has_link (option_map contents shared) own) }
     ensures memory { IfErr result
@@ -150,45 +148,29 @@ fn is_above(entries: &EntrySlice<'_>, kept: usize, place: usize) -> bool
     entries.compare(kept - 1, place).is_lt()
 }
 
-/// Puts the entry at a place behind the first ones that are kept, if it has a path and stands above the last of them;
-/// and says how many are kept then. No entry behind the place moves.
-fn keep_at(entries: &mut Vec<Entry>, storage: &[u8], kept: usize, place: usize) -> usize
-    requires placed { All (IsPlaced (length storage.now)) entries.old.items }
-    requires within { kept ≤ place }
-    requires inside { place < length entries.old.items }
-    ensures placed { All (IsPlaced (length storage.now)) entries.new.items }
-    ensures kept { (rs : List Record) → IsOrdered rs
-        → AreKept rs place (records_in storage.now entries.old.items) kept
-        → AreKept rs (place + 1) (records_in storage.now entries.new.items) result }
-{
-    if is_above(&EntrySlice::new(entries, storage), kept, place) {
-        entries.swap(kept, place);
-        return kept + 1;
-    }
-    kept
-}
-
-/// Drops, of entries in order, those that have no path, and keeps of each path and stage the first.
+/// Drops, of entries in order, those that have no path, and keeps of each path and stage the first. Each that has a path
+/// and stands above the last of those that are kept comes behind it; no entry behind its place moves.
 fn keep_firsts(entries: &mut Vec<Entry>, storage: &[u8])
-    requires placed { All (IsPlaced (length storage.now)) entries.old.items }
-    requires ordered { IsOrdered (records_in storage.now entries.old.items) }
-    ensures placed { All (IsPlaced (length storage.now)) entries.new.items }
-    ensures saved { IsSavedOf (records_in storage.now entries.old.items)
+    ensures placed { All (IsPlaced (length storage.now)) entries.old.items
+        → All (IsPlaced (length storage.now)) entries.new.items }
+    ensures saved { IsOrdered (records_in storage.now entries.old.items)
+        → IsSavedOf (records_in storage.now entries.old.items)
         (records_in storage.now entries.new.items) }
 {
     let mut kept = 0;
     for place in 0..entries.len() {
-        kept = keep_at(entries, storage, kept, place);
+        if is_above(&EntrySlice::new(entries, storage), kept, place) {
+            entries.swap(kept, place);
+            kept += 1;
+        }
     }
     entries.truncate(kept);
 }
 
-/// An index of what is saved of the entries of another, which are in order. They stay where they are in memory.
+/// An index of what is saved of the entries of another, where they are in order. They stay where they are in memory.
 fn firsts(state: State) -> State
-    requires index { IsIndexOf (contents state).kind (records state) state }
-    requires ordered { IsOrdered (records state) }
-    ensures saved { IsSavedOf (records state) (records result) }
-    ensures index { IsIndexOf (contents state).kind (records result) result }
+    ensures saved { IsOrdered (records state) → IsSavedOf (records state) (records result) }
+    ensures index { IsOrdered (records state) → StaysIndex state result }
 {
     let object_hash = state.object_hash();
     let timestamp = state.timestamp();
@@ -220,9 +202,8 @@ fn are_whole(entries: &EntrySlice<'_>) -> bool
 /// An index of what is saved of the entries of another: that one itself, where none is left out. Memory is asked for
 /// where the entries aren't in order.
 fn saved(mut state: State) -> Result<State, AllocError>
-    requires { IsIndexOf (contents state).kind (records state) state }
     ensures saved { IfOk result (λ s. IsSavedOf (records state) (records s)) }
-    ensures index { IfOk result (λ s. IsIndexOf (contents state).kind (records s) s) }
+    ensures index { IfOk result (StaysIndex state) }
     ensures memory { IfErr result (λ _. IsOrdered (records state) → ⊥) }
 {
     if are_whole(&EntrySlice::new(state.entries(), state.path_backing())) {

@@ -1,11 +1,11 @@
 -- Strings as the kit's writer writes them, and texts that aren't UTF-8.
-use Rattle.std.proofs.Common.{◌≡◌, ℕ, List, [], ◌∷◌, ◌++◌, append-nil, Bool, true, false, ap, ◌∙◌, refl}
+use Rattle.std.proofs.Common.{◌≡◌, ℕ, List, [], ◌∷◌, ◌++◌, append-nil, Bool, true, false, ap, codes, ◌∙◌, refl}
 use Rattle.std.specs.Str.{IsUtf8, is_utf8}
 use Rattle.std.proofs.lemmas.Str.{IsUtf8-from_is_utf8, is_utf8-from_IsUtf8}
 use Rattle.json.specs.Print.{print, print_from, quoted}
 use Rattle.json.specs.Token.{Token, string}
 use Rattle.index_events.specs.Event.{Position}
-use Rattle.index_json.specs.Values.{begin_of, bytes_position, hex_string, json_string, text_value}
+use Rattle.index_json.specs.Values.{begin_of, begin_with, hex_string, json_string, text_value}
 
 -- the text of one string
 one_string : (s : List ℕ) → print (string s ∷ []) ≡ quoted s
@@ -28,6 +28,6 @@ not_utf8 bytes true e u = absurd (u (IsUtf8-from_is_utf8 bytes e))
 not_utf8 bytes false e u = e
 
 pub bytes_are : (position : Position) (bytes : List ℕ) → ¬ (IsUtf8 bytes)
-    → begin_of (bytes_position position) ++ hex_string bytes ≡ text_value position bytes
+    → begin_with position (codes "_bytes\":") ++ hex_string bytes ≡ text_value position bytes
 unfolding text_value
 bytes_are position bytes u = let t : is_utf8 bytes ≡ false = not_utf8 bytes (is_utf8 bytes) refl u in rw t refl

@@ -11,28 +11,20 @@ abbrev pub time_value : Time → List ℕ
 time_value t = number_member (codes "{") (codes "secs") t.secs
     ++ number_member (codes ",") (codes "nsecs") t.nsecs ++ codes "}"
 
--- the two times of a file
-unfoldable pub time_members : Stat → List ℕ
-time_members s = member (codes "{") (codes "mtime") (time_value s.mtime)
-    ++ member (codes ",") (codes "ctime") (time_value s.ctime)
-
--- the other numbers that a file system has of a file
-unfoldable pub file_members : Stat → List ℕ
-file_members s =
-    number_member (codes ",") (codes "dev") s.dev ++ number_member (codes ",") (codes "ino") s.ino
-    ++ number_member (codes ",") (codes "uid") s.uid ++ number_member (codes ",") (codes "gid") s.gid
-    ++ number_member (codes ",") (codes "size") s.size
-
 unfoldable pub stat_value : Stat → List ℕ
-stat_value s = time_members s ++ file_members s ++ codes "}"
+stat_value s =
+    member (codes "{") (codes "mtime") (time_value s.mtime) ++ member (codes ",") (codes "ctime") (time_value s.ctime)
+    ++ number_member (codes ",") (codes "dev") s.dev ++ number_member (codes ",") (codes "ino") s.ino
+    ++ number_member (codes ",") (codes "uid") s.uid ++ number_member (codes ",") (codes "gid") s.gid
+    ++ number_member (codes ",") (codes "size") s.size ++ codes "}"
 
--- what an entry has beside its stat; the flags are one number of 32 bits, of which the stage is told beside it too
-unfoldable pub entry_members : Record → List ℕ
-entry_members r =
-    codes "{" ++ text_value (first (codes "path")) r.path ++ id_member (codes ",") (codes "id") r.id
-    ++ number_member (codes ",") (codes "mode") r.mode
+-- what an entry has behind its path; the flags are one number of 32 bits, of which the stage is told beside it too
+abbrev pub behind_path : Record → List ℕ
+behind_path r =
+    id_member (codes ",") (codes "id") r.id ++ number_member (codes ",") (codes "mode") r.mode
     ++ number_member (codes ",") (codes "stage") (stage_number r.flags)
-    ++ number_member (codes ",") (codes "flags") r.flags
+    ++ number_member (codes ",") (codes "flags") r.flags ++ member (codes ",") (codes "stat") (stat_value r.stat)
+    ++ codes "}"
 
 unfoldable pub entry_value : Record → List ℕ
-entry_value r = entry_members r ++ member (codes ",") (codes "stat") (stat_value r.stat) ++ codes "}"
+entry_value r = codes "{" ++ text_value (first (codes "path")) r.path ++ behind_path r

@@ -1,11 +1,13 @@
 -- The JSON text of events, and so all that an index file holds as one object on one line (the library's own; the text
 -- is that of RFC 8259).
-use Rattle.std.specs.Prelude.{List, ℕ, ◌-◌, [], ◌++◌, codes, decimal, true, false, Option, Some, None}
+use Rattle.std.specs.Prelude.{List, ℕ, ◌-◌, [], ◌++◌, codes, decimal, true, false, Option, Some}
 use Rattle.index_bitmaps.specs.declared.ranges.Range.{Range}
 use Rattle.index_events.specs.Document.{document_events}
-use Rattle.index_events.specs.Event.{Datum, Event, a_block, a_number, a_side, an_answer, an_id, begin_array}
-use Rattle.index_events.specs.Event.{begin_object, count_line, datum_field, end_array, end_object, end_text, entry_item}
-use Rattle.index_events.specs.Event.{heading, no_value, presence, print, ranges_field, stat_field, text_field}
+use Rattle.index_events.specs.declared.event.Datum.{Datum}
+use Rattle.index_events.specs.declared.event.Datum.TheVariants.{Answer, Block, Count, Id, Number, Side}
+use Rattle.index_events.specs.Event.{Event, begin_array, begin_object, datum_field, end_array, end_object, end_text}
+use Rattle.index_events.specs.Event.{entry_item, heading, hidden_field, line_field, print, ranges_field, stat_field}
+use Rattle.index_events.specs.Event.{text_field}
 use Rattle.index_format.specs.Contents.{Contents}
 use Rattle.index_marks.specs.declared.Marks.{Marks}
 use Rattle.index_parts.specs.Id.{id_bytes}
@@ -32,32 +34,31 @@ block_value o =
 
 -- what a field says
 abbrev pub datum_value : Datum → List ℕ
-datum_value (a_number n) = decimal n
-datum_value (an_id None) = codes "null"
-datum_value (an_id (Some id)) = hex_string (id_bytes id)
-datum_value (an_answer true) = codes "true"
-datum_value (an_answer false) = codes "false"
-datum_value (a_side None) = codes "null"
-datum_value (a_side (Some side)) = side_value side
-datum_value (a_block block) = block_value block
-datum_value (no_value word) = codes "null"
+datum_value (Number n) = decimal n
+datum_value (Id (Some id)) = hex_string (id_bytes id)
+datum_value (Answer true) = codes "true"
+datum_value (Answer false) = codes "false"
+datum_value (Side (Some side)) = side_value side
+datum_value (Block block) = block_value block
+datum_value (Count (Some n)) = decimal n
+datum_value d = codes "null"
 
--- the text of an event; headings and counts have none
+-- the text of an event; headings and lines have none
 abbrev pub event_text : Event → List ℕ
-event_text (datum_field f d) = begin_of f.position ++ datum_value d
-event_text (text_field f bytes) = text_value f.position bytes
-event_text (ranges_field f ranges) = begin_of f.position ++ array range_value ranges
-event_text (stat_field indent position s) = begin_of position ++ stat_value s
+event_text (datum_field indent words position d) = begin_of position ++ datum_value d
+event_text (text_field indent words position bytes) = text_value position bytes
+event_text (ranges_field indent words position ranges) = begin_of position ++ array range_value ranges
+event_text (stat_field further position s) = begin_of position ++ stat_value s
 event_text (entry_item place r) = separator place ++ entry_value r
 event_text (heading indent words) = []
-event_text (count_line indent words n) = []
+event_text (line_field indent words d) = []
+event_text (hidden_field position d) = begin_of position ++ datum_value d
 event_text (begin_object position) = begin_of position ++ codes "{"
 event_text end_object = codes "}"
 event_text (begin_array position) = begin_of position ++ codes "["
 event_text end_array = codes "]"
-event_text (presence position is_there) = begin_of position ++ datum_value (an_answer is_there)
 event_text end_text = codes "\n"
 
 -- one object, and a newline
 abbrev pub json_text : Contents → Option ObjectId → Marks → List ℕ
-json_text c checksum marks = print event_text (document_events true c checksum marks)
+json_text c checksum marks = print event_text (document_events c checksum marks)

@@ -34,25 +34,22 @@ id_member before name id = member before name (hex_string (id_bytes id))
 abbrev pub separator : ℕ → List ℕ
 separator place = if place == 0 then [] else codes ","
 
--- what stands before a value: its name as a string with a colon, and a comma before all but the first
-unfoldable pub begin_of : Position → List ℕ
-begin_of alone = []
-begin_of (first name) = codes "\"" ++ name ++ codes "\":"
-begin_of (next name) = codes ",\"" ++ name ++ codes "\":"
-begin_of (element place) = separator place
+-- what stands before a value: its name as a string with what ends it, and a comma before all but the first
+unfoldable pub begin_with : Position → List ℕ → List ℕ
+begin_with alone end = []
+begin_with (first name) end = codes "\"" ++ name ++ end
+begin_with (next name) end = codes ",\"" ++ name ++ end
+begin_with (element place) end = separator place
 
--- the position of the digits of bytes, under a name that says so
-abbrev pub bytes_position : Position → Position
-bytes_position alone = alone
-bytes_position (first name) = first (name ++ codes "_bytes")
-bytes_position (next name) = next (name ++ codes "_bytes")
-bytes_position (element place) = element place
+-- a name ends with a colon behind it
+abbrev pub begin_of : Position → List ℕ
+begin_of position = begin_with position (codes "\":")
 
--- a text as a string, or where the bytes aren't UTF-8 the digits of each
+-- a text as a string, or where the bytes aren't UTF-8 the digits of each, under a name that says so
 unfoldable pub text_value : Position → List ℕ → List ℕ
 text_value position bytes =
     if is_utf8 bytes then begin_of position ++ json_string bytes
-    else begin_of (bytes_position position) ++ hex_string bytes
+    else begin_with position (codes "_bytes\":") ++ hex_string bytes
 
 -- ---- arrays
 

@@ -1,24 +1,20 @@
 //! The values of entries.
 
-ghost use Rattle.std.specs.Prelude.{◌+◌, ◌++◌, codes, decimal, length};
-ghost use Rattle.index_events.specs.Event.{Adds};
-ghost use Rattle.index_entries.specs.Record.{IsPlaced, record_in};
-ghost use Rattle.index_metadata.specs.Flags.{stage_number};
-ghost use Rattle.index_state.specs.State.{storage_of};
+ghost use Rattle.std.specs.Prelude.{◌+◌, [], ◌++◌, decimal, length};
+ghost use Rattle.index_entries.specs.Record.{record_in};
+ghost use Rattle.index_events.specs.Event.{Adds, position_of, record_at};
 ghost use Rattle.index_text.specs.Prepending.{HasRoom, Prepends};
-ghost use Rattle.index_json.specs.EntryValues.{entry_value, stat_value, time_value};
-ghost use Rattle.index_json.specs.Values.{id_member, member, number_member, separator};
+ghost use Rattle.index_json.specs.EntryValues.{behind_path, entry_value, stat_value, time_value};
+ghost use Rattle.index_json.specs.Values.{begin_of, separator};
 
-use crate::values::{append_separator, append_text};
+use crate::values::{append_piece, append_separator, append_text};
 use bitflags::Flags as _;
 use index_entries::Entry;
 use index_events::event::Member;
 use index_metadata::entry::Stat;
 use index_metadata::entry::stat::Time;
-use index_state::State;
 use index_text::append::Appended;
 use index_text::prepend::{prepend, prepend_decimal, prepend_hex};
-use std::alloc::Global;
 
 /// How many bytes a stat takes at most.
 const STAT_LEN: usize = 271;
@@ -68,36 +64,28 @@ fn prepend_stat(room: &mut [u8], end: usize, stat: Stat) -> usize
     prepend_time(room, end, b"{\"mtime\":", stat.mtime)
 }
 
-/// Appends a stat.
-pub fn append_stat(text: &mut Vec<u8>, stat: Stat) -> Appended
-    ensures { Adds result text.old text.new (stat_value stat) }
+/// Appends a stat at its position.
+pub fn append_stat(text: &mut Vec<u8>, member: Member<'_>, stat: Stat) -> Appended
+    ensures { Adds result text.old text.new
+        (begin_of (position_of member.entry) ++ stat_value stat) }
 {
     let mut room = [0; STAT_LEN];
     let start = prepend_stat(&mut room, STAT_LEN, stat);
-    text.extend_from_slice(&room[start..])
+    append_piece(text, member, &room[start..])
 }
 
 /// Appends what an entry has behind its path.
 #[tactic(auto, unfolding(crate::specs::Values::member))]
 fn append_behind_path(text: &mut Vec<u8>, entry: &Entry) -> Appended
-    ensures { Adds result text.old text.new
-        (id_member (codes ",") (codes "id") entry.now.id
-        ++ number_member (codes ",") (codes "mode") entry.now.mode.0
-        ++ number_member (codes ",") (codes "stage") (stage_number entry.now.flags.0)
-        ++ number_member (codes ",") (codes "flags") entry.now.flags.0
-        ++ member (codes ",") (codes "stat") (stat_value entry.now.stat) ++ codes "}") }
+    ensures { Adds result text.old text.new (behind_path (record_in [] entry.now)) }
 {
+    let stage = u32::from(entry.stage_raw());
     let mut room = [0; BEHIND_PATH_LEN];
     let start = prepend(&mut room, BEHIND_PATH_LEN, b"}");
     let start = prepend_stat(&mut room, start, entry.stat);
     let start = prepend(&mut room, start, b",\"stat\":");
     let start = prepend_number(&mut room, start, b",\"flags\":", entry.flags.bits());
-    let start = prepend_number(
-        &mut room,
-        start,
-        b",\"stage\":",
-        u32::from(entry.stage_raw()),
-    );
+    let start = prepend_number(&mut room, start, b",\"stage\":", stage);
     let start = prepend_number(&mut room, start, b"\",\"mode\":", entry.mode.bits());
     let start = prepend_hex(&mut room, start, &entry.id);
     let start = prepend(&mut room, start, b",\"id\":\"");
@@ -105,20 +93,13 @@ fn append_behind_path(text: &mut Vec<u8>, entry: &Entry) -> Appended
 }
 
 /// Appends an entry, and the comma before each but the first.
-#[tactic(auto, unfolding(crate::specs::EntryValues::entry_value, crate::specs::EntryValues::entry_members))]
-pub fn append_entry(
-    text: &mut Vec<u8>,
-    alloc: Global,
-    state: &State,
-    place: usize,
-    entry: &Entry,
-) -> Appended
-    requires { IsPlaced (length (storage_of state.now)) entry.now }
+#[tactic(auto, unfolding(crate::specs::EntryValues::entry_value))]
+pub fn append_entry(text: &mut Vec<u8>, place: usize, entry: &Entry, path: &[u8]) -> Appended
     ensures { Adds result text.old text.new
-        (separator place ++ entry_value (record_in (storage_of state.now) entry.now)) }
+        (separator place ++ entry_value (record_at path.now entry.now)) }
 {
     append_separator(text, place)?;
     text.extend_from_slice(b"{")?;
-    append_text(text, alloc, Member::First(b"path"), entry.path(state))?;
+    append_text(text, Member::First(b"path"), path)?;
     append_behind_path(text, entry)
 }

@@ -21,14 +21,15 @@ use Rattle.index_untracked.specs.Untracked.{Cache}
 use Rattle.index_untracked.specs.declared.OidStat.{OidStat}
 use Rattle.index_events.specs.Bitmaps.{bitmap_events, link_events, monitor_events, pair_events, token_event}
 use Rattle.index_events.specs.Document.{behind_events, document_events, entry_events, head_events, last_events}
-use Rattle.index_events.specs.Event.{Event, absent_field, count_line, element, element_field, first_field, next_field}
+use Rattle.index_events.specs.Event.{Event, element, line_field}
 use Rattle.index_events.specs.Marks.{block_events, blocks_events, end_events, marker_events, table_events}
 use Rattle.index_events.specs.Trees.{all_tree_events, below, cached_tree_events, deepest_indent, depth_events, indent}
-use Rattle.index_events.specs.Trees.{known_events, tree_events}
+use Rattle.index_events.specs.Trees.{opened_events, tree_events}
 use Rattle.index_events.specs.Undo.{path_events, undo_events}
 use Rattle.index_events.specs.Untracked.{cache_begin, cached_events, exclude_events, name_events}
-use Rattle.index_events.specs.Untracked.{own_events, stat_events, subdirectory_events}
+use Rattle.index_events.specs.Untracked.{stat_events, subdirectory_events}
 use Rattle.index_events.specs.Untracked.{untracked_events}
+use Rattle.index_events.specs.declared.event.Datum.TheVariants.{Number}
 use Rattle.index_json.specs.Json.{json_text}
 use Rattle.index_json_laws.specs.Telling.{Behind, are_plain, document_value, told, value_of}
 use Rattle.index_json_laws.specs.Value.{spelling}
@@ -46,11 +47,11 @@ depth_told : (depth : ℕ) (b : Behind) → told (depth_events depth) b ≡ b
 unfolding depth_events
 depth_told depth b =
     cond_both (nat_lt deepest_indent depth)
-    (count_line (indent (deepest_indent + 2)) (codes "depth") depth ∷ []) []
+    (line_field (indent (deepest_indent + 2)) (codes "depth") (Number depth) ∷ []) []
     (λ (events : List Event). told events b ≡ b) (λ e. refl) (λ e. refl)
 
 mutual
-  unfolding known_events first_field next_field
+  unfolding opened_events
 
   node_told : (depth : ℕ) (t : Node) → TellsItem (λ place. tree_events (element place) depth t)
   node_told depth (node name id count children) =
@@ -64,7 +65,7 @@ mutual
       (nodes_told (place + 1) depth ts)
 
 tree_told : (t : Option Node) → TellsMembers true (cached_tree_events t)
-unfolding absent_field known_events first_field next_field
+unfolding opened_events
 tree_told None = members_told (λ ms b. refl)
 tree_told (Some (node name id count children)) =
     let inside = whole_array _ (nodes_told 0 (below 0) children) in
@@ -73,12 +74,12 @@ tree_told (Some (node name id count children)) =
 -- ---- bitmaps
 
 pair_told : (pair : Option BitmapPair) → TellsMembers true (pair_events pair)
-unfolding pair_events bitmap_events absent_field first_field next_field
+unfolding pair_events bitmap_events
 pair_told None = members_told (λ ms b. refl)
 pair_told (Some pair) = members_told (λ ms b. refl)
 
 link_told : (link : Option LinkValue) → TellsMembers true (link_events link)
-unfolding link_events absent_field first_field next_field
+unfolding link_events
 link_told None = members_told (λ ms b. refl)
 link_told (Some link) =
     let pair = pair_told link.bitmaps in
@@ -86,23 +87,22 @@ link_told (Some link) =
 
 watch_told : (token : TokenValue) (dirty : Bitmap)
     → TellsMembers true (monitor_events (Some (record { token = token; dirty = dirty })))
-unfolding monitor_events token_event bitmap_events absent_field first_field next_field
+unfolding monitor_events token_event bitmap_events
 watch_told (nanoseconds time) dirty = members_told (λ ms b. refl)
 watch_told (opaque text) dirty = members_told (λ ms b. refl)
 
 monitor_told : (monitor : Option Monitor) → TellsMembers true (monitor_events monitor)
-unfolding monitor_events absent_field next_field
+unfolding monitor_events
 monitor_told None = members_told (λ ms b. refl)
 monitor_told (Some monitor) = watch_told monitor.token monitor.dirty
 
 -- ---- resolved conflicts
 
 path_told : (p : PathStages) → TellsItem (λ place. path_events place p)
-unfolding path_events first_field next_field element_field
+unfolding path_events
 path_told p = item_told (λ place b. refl)
 
 undo_told : (paths : Option (List PathStages)) → TellsMembers true (undo_events paths)
-unfolding absent_field next_field
 undo_told None = members_told (λ ms b. refl)
 undo_told (Some paths) =
     let inside = listed_told path_events path_told paths in
@@ -111,50 +111,48 @@ undo_told (Some paths) =
 -- ---- an untracked cache
 
 exclude_told : (words name : List ℕ) (file : Option OidStat) → are_plain name ≡ true
-    → TellsMembers true (exclude_events true words name file)
-unfolding exclude_events absent_field first_field next_field
+    → TellsMembers true (exclude_events words name file)
+unfolding exclude_events
 exclude_told words name None p = members_told (λ ms b. simp p refl)
 exclude_told words name (Some file) p = members_told (λ ms b. simp p refl)
 
 stat_told : (s : Option Stat) → TellsMembers true (stat_events s)
-unfolding stat_events absent_field next_field
+unfolding stat_events
 stat_told None = members_told (λ ms b. refl)
 stat_told (Some s) = members_told (λ ms b. refl)
 
 name_told : (name : List ℕ) → TellsItem (λ place. name_events place name)
-unfolding name_events first_field next_field
+unfolding name_events
 name_told name = item_told (λ place b. refl)
 
 subdirectory_told : (n : ℕ) → TellsItem (λ place. subdirectory_events place n)
-unfolding element_field
 subdirectory_told n = item_told (λ place b. refl)
 
-directory_told : (d : DirectoryValue) → TellsItem (λ place. cached_events true place d)
-unfolding cached_events own_events first_field next_field
+directory_told : (d : DirectoryValue) → TellsItem (λ place. cached_events place d)
+unfolding cached_events
 directory_told d =
     let stat = stat_told d.stat in
     let names = listed_told name_events name_told d.untracked in
     let places = listed_told subdirectory_events subdirectory_told d.subs in
     item_told (λ place b. simp told_append (simp (stat.is, names.is, places.is) refl))
 
-cache_told : (cache : Option Cache) → TellsMembers true (untracked_events true cache)
-unfolding cache_begin absent_field first_field next_field
+cache_told : (cache : Option Cache) → TellsMembers true (untracked_events cache)
+unfolding cache_begin
 cache_told None = members_told (λ ms b. refl)
 cache_told (Some c) =
     let p = c.preamble in
     let info = exclude_told (codes "info/exclude") (codes "info_exclude") p.info_exclude refl in
     let excludes = exclude_told (codes "excludes file") (codes "excludes_file") p.excludes_file refl in
-    let inside = listed_told (cached_events true) directory_told c.directories in
+    let inside = listed_told cached_events directory_told c.directories in
     members_told (λ ms b. simp told_append (simp (info.is, excludes.is, inside.is) refl))
 
 -- ---- an offset table and an end marker
 
 block_told : (o : Offset) → TellsItem (λ place. block_events place o)
-unfolding element_field
 block_told o = item_told (λ place b. refl)
 
 table_told : (had : Bool) (table : Option (List Offset)) → TellsMembers true (table_events had table)
-unfolding table_events blocks_events absent_field next_field
+unfolding table_events blocks_events
 table_told false table = members_told (λ ms b. refl)
 table_told true None = members_told (λ ms b. refl)
 table_told true (Some blocks) =
@@ -162,7 +160,7 @@ table_told true (Some blocks) =
     members_told (λ ms b. simp (told_append, inside.is) refl)
 
 marker_told : (had : Bool) (mark : Option EndMark) → TellsMembers true (end_events had mark)
-unfolding end_events marker_events absent_field first_field next_field
+unfolding end_events marker_events
 marker_told false mark = members_told (λ ms b. refl)
 marker_told true None = members_told (λ ms b. refl)
 marker_told true (Some m) = members_told (λ ms b. refl)
@@ -170,8 +168,8 @@ marker_told true (Some m) = members_told (λ ms b. refl)
 -- ---- all of it
 
 pub document_told : (c : Contents) (checksum : Option ObjectId) (marks : Marks)
-    → value_of (document_events true c checksum marks) ≡ Some (document_value c checksum marks)
-unfolding document_value document_events head_events behind_events last_events first_field next_field
+    → value_of (document_events c checksum marks) ≡ Some (document_value c checksum marks)
+unfolding document_value document_events head_events behind_events last_events
 document_told c checksum marks =
     let o = c.extensions in
     let entries = listed_told entry_events entry_told c.records in
@@ -185,5 +183,5 @@ document_told c checksum marks =
 pub document_text : (c : Contents) (checksum : Option ObjectId) (marks : Marks)
     → json_text c checksum marks ≡ spelling (document_value c checksum marks) ++ codes "\n"
 document_text c checksum marks =
-    value_spelled (document_events true c checksum marks) (document_value c checksum marks)
+    value_spelled (document_events c checksum marks) (document_value c checksum marks)
     (document_told c checksum marks)

@@ -10,11 +10,13 @@ use Rattle.index_metadata.specs.declared.entry.stat.Time.{Time}
 use Rattle.index_parts.specs.Id.{id_bytes}
 use Rattle.index_small_extensions.specs.declared.index_entry_offset_table.Offset.{Offset}
 use Rattle.index_small_extensions.specs.declared.resolve_undo.Stage.{Stage}
-use Rattle.index_json.specs.EntryValues.{entry_members, entry_value, file_members, stat_value, time_members}
-use Rattle.index_json.specs.EntryValues.{time_value}
+use Rattle.index_json.specs.EntryValues.{entry_value, stat_value, time_value}
 use Rattle.index_json.specs.Json.{block_value, datum_value, range_value, side_value as written_side}
 use Rattle.index_json.specs.Values.{array as written_array, member as written_member}
-use Rattle.index_events.specs.Event.{Datum, a_block, a_number, a_side, an_answer, an_id, first, no_value}
+use Rattle.index_events.specs.declared.event.Datum.{Datum}
+use Rattle.index_events.specs.declared.event.Datum.TheVariants.{Absent, Answer, Block, Count, Id, Malformed, Number}
+use Rattle.index_events.specs.declared.event.Datum.TheVariants.{Side}
+use Rattle.index_events.specs.Event.{first}
 use Rattle.index_json.specs.Values.{text_value}
 use Rattle.index_json_laws.specs.EventValues.{block_object, entry_object, range_array, side_object, stat_object}
 use Rattle.index_json_laws.specs.EventValues.{time_object, value_of_datum}
@@ -23,11 +25,11 @@ use Rattle.index_json_laws.proofs.Pieces.{values_text}
 use Rattle.index_json_laws.proofs.Members.{member_spelled, none_spelled, text_spelled}
 
 -- pieces one after another, whichever are put together first
-seven_and : (a b c d e f g z : List ℕ) → (a ++ b) ++ (c ++ d ++ e ++ f ++ g) ++ z
+eight_and : (a b c d e f g z : List ℕ) → a ++ b ++ c ++ d ++ e ++ f ++ g ++ z
     ≡ a ++ (b ++ (c ++ (d ++ (e ++ (f ++ (g ++ z))))))
-seven_and a b c d e f g z = simp append_assoc
+eight_and a b c d e f g z = simp append_assoc
 
-six_and : (o a b c d e f z : List ℕ) → (o ++ a ++ b ++ c ++ d ++ e) ++ f ++ z
+six_and : (o a b c d e f z : List ℕ) → o ++ a ++ (b ++ c ++ d ++ e ++ f ++ z)
     ≡ o ++ (a ++ (b ++ (c ++ (d ++ (e ++ (f ++ z))))))
 six_and o a b c d e f z = simp append_assoc
 
@@ -36,9 +38,9 @@ unfolding written_member escape_byte
 time_text t = simp (append_assoc, append-nil) refl
 
 pub stat_text : (s : Stat) → stat_value s ≡ spelling (stat_object s)
-unfolding stat_value time_members file_members written_member escape_byte
+unfolding stat_value written_member escape_byte
 stat_text s =
-    seven_and (written_member (codes "{") (codes "mtime") (time_value s.mtime))
+    eight_and (written_member (codes "{") (codes "mtime") (time_value s.mtime))
     (written_member (codes ",") (codes "ctime") (time_value s.ctime))
     (written_member (codes ",") (codes "dev") (decimal s.dev))
     (written_member (codes ",") (codes "ino") (decimal s.ino))
@@ -70,18 +72,21 @@ unfolding block_value written_member escape_byte
 block_text o = simp (append_assoc, append-nil) refl
 
 pub datum_text : (d : Datum) → datum_value d ≡ spelling (value_of_datum d)
-datum_text (a_number n) = refl
-datum_text (an_id None) = refl
-datum_text (an_id (Some id)) = refl
-datum_text (an_answer true) = refl
-datum_text (an_answer false) = refl
-datum_text (a_side None) = refl
-datum_text (a_side (Some side)) = side_text side
-datum_text (a_block o) = block_text o
-datum_text (no_value word) = refl
+datum_text (Number n) = refl
+datum_text (Id None) = refl
+datum_text (Id (Some id)) = refl
+datum_text (Answer true) = refl
+datum_text (Answer false) = refl
+datum_text (Side None) = refl
+datum_text (Side (Some side)) = side_text side
+datum_text (Block o) = block_text o
+datum_text (Count None) = refl
+datum_text (Count (Some n)) = refl
+datum_text Absent = refl
+datum_text Malformed = refl
 
 pub entry_text : (r : Record) → entry_value r ≡ spelling (entry_object r)
-unfolding entry_value entry_members written_member escape_byte
+unfolding entry_value written_member escape_byte
 entry_text r =
     six_and (codes "{") (text_value (first (codes "path")) r.path)
     (written_member (codes ",") (codes "id") (spelling (digits (id_bytes r.id))))

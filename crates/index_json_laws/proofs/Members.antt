@@ -2,7 +2,7 @@
 use Rattle.std.proofs.Common.{◌≡◌, ℕ, true, List, [], ◌++◌, append_assoc, ap, codes, refl, sym, ◌∙◌}
 use Rattle.json.specs.Print.{quoted}
 use Rattle.index_events.specs.Event.{first}
-use Rattle.index_json.specs.Values.{begin_of, text_value}
+use Rattle.index_json.specs.Values.{begin_with, text_value}
 use Rattle.index_json_laws.specs.EventValues.{text_name, text_or_digits}
 use Rattle.index_json_laws.specs.Telling.{are_plain}
 use Rattle.index_json_laws.specs.Value.{Members, Value, member, members_spelling, no_members, spelling}
@@ -40,7 +40,7 @@ member_spelled {text} {after} {ms} before name value x p e others = record {
 pub text_spelled : {text after : List ℕ} {ms : Members} (name bytes : List ℕ) → are_plain name ≡ true
     → Spells text (codes ",") ms after
     → Spells (text_value (first name) bytes ++ text) [] (member (text_name name bytes) (text_or_digits bytes) ms) after
-unfolding begin_of
+unfolding begin_with
 text_spelled {text} {after} {ms} name bytes p others = record {
   is = ap (λ (l : List ℕ). l ++ text) (text_told (first name) bytes)
       ∙ (member_spelled [] (text_name name bytes) (spelling (text_or_digits bytes)) (text_or_digits bytes)

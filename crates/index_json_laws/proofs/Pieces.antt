@@ -8,7 +8,7 @@ use Rattle.std.specs.Str.{is_utf8}
 use Rattle.json.proofs.Printed.Strings.{escape_byte_plain}
 use Rattle.json.specs.Print.{escape, escape_byte, quoted}
 use Rattle.index_events.specs.Event.{Position, alone, element, first, next}
-use Rattle.index_json.specs.Values.{begin_of, hex_string, json_string, separator, text_value}
+use Rattle.index_json.specs.Values.{begin_of, begin_with, hex_string, json_string, separator, text_value}
 use Rattle.index_json_laws.specs.EventValues.{text_name, text_or_digits}
 use Rattle.index_json_laws.specs.Telling.{are_plain, has_plain_name, is_plain, text_position}
 use Rattle.index_json_laws.specs.Value.{Value, digits, items_of, items_spelling, spelling, string}
@@ -84,18 +84,23 @@ plain_text_position (first name) bytes e = plain_text_name name bytes e
 plain_text_position (next name) bytes e = plain_text_name name bytes e
 plain_text_position (element place) bytes e = e
 
-string_or_digits : (at : List ℕ → Position) (name bytes : List ℕ) (b : Bool)
+string_or_digits : (at : List ℕ → Position) (name bytes : List ℕ)
+    → begin_with (at name) (codes "_bytes\":") ≡ begin_of (at (name ++ codes "_bytes")) → (b : Bool)
     → (if b then begin_of (at name) ++ json_string bytes
-    else begin_of (at (name ++ codes "_bytes")) ++ hex_string bytes)
+    else begin_with (at name) (codes "_bytes\":") ++ hex_string bytes)
     ≡ begin_of (at (if b then name else name ++ codes "_bytes")) ++ spelling (if b then string bytes else digits bytes)
-string_or_digits at name bytes true = refl
-string_or_digits at name bytes false = refl
+string_or_digits at name bytes e true = refl
+string_or_digits at name bytes e false = ap (λ (l : List ℕ). l ++ hex_string bytes) e
+
+-- a name that says that digits follow
+longer : (before name : List ℕ) → before ++ name ++ codes "_bytes\":" ≡ before ++ (name ++ codes "_bytes") ++ codes "\":"
+longer before name = simp append_assoc refl
 
 -- a text is told as a value at its position
 pub text_told : (position : Position) (bytes : List ℕ)
     → text_value position bytes ≡ begin_of (text_position position bytes) ++ spelling (text_or_digits bytes)
-unfolding text_value
-text_told alone bytes = string_or_digits (λ name. alone) [] bytes (is_utf8 bytes)
-text_told (first name) bytes = string_or_digits first name bytes (is_utf8 bytes)
-text_told (next name) bytes = string_or_digits next name bytes (is_utf8 bytes)
-text_told (element place) bytes = string_or_digits (λ name. element place) [] bytes (is_utf8 bytes)
+unfolding text_value begin_with
+text_told alone bytes = string_or_digits (λ name. alone) [] bytes refl (is_utf8 bytes)
+text_told (first name) bytes = string_or_digits first name bytes (longer (codes "\"") name) (is_utf8 bytes)
+text_told (next name) bytes = string_or_digits next name bytes (longer (codes ",\"") name) (is_utf8 bytes)
+text_told (element place) bytes = string_or_digits (λ name. element place) [] bytes refl (is_utf8 bytes)

@@ -3,17 +3,17 @@ use Rattle.std.proofs.Common.{◌≡◌, ℕ, zero, suc, Bool, true, false, List
 use Rattle.std.proofs.Common.{arith, codes, refl, subst, sym, ◌∙◌, Option, Some, None, ◌==◌}
 use Rattle.std.proofs.lemmas.Bool.{cond_both, ne_eqb}
 use Rattle.std.specs.Prelude.{if◌then◌else◌}
-use Rattle.index_events.specs.Event.{Event, Position, alone, an_answer, begin_array, begin_object, count_line}
-use Rattle.index_events.specs.Event.{datum_field, element, end_array, end_object, end_text, entry_item, first, heading}
-use Rattle.index_events.specs.Event.{next, presence, print, ranges_field, stat_field, text_field}
+use Rattle.index_events.specs.Event.{Event, Position, alone, begin_array, begin_object, datum_field, element, end_array}
+use Rattle.index_events.specs.Event.{end_object, end_text, entry_item, first, heading, hidden_field, line_field, next}
+use Rattle.index_events.specs.Event.{print, ranges_field, stat_field, text_field}
 use Rattle.index_json.specs.EntryValues.{entry_value, stat_value}
 use Rattle.index_json.specs.Json.{datum_value, event_text, range_value}
-use Rattle.index_json.specs.Values.{array as written_array, begin_of, separator, text_value}
+use Rattle.index_json.specs.Values.{array as written_array, begin_of, begin_with, separator, text_value}
 use Rattle.index_json_laws.specs.EventValues.{entry_object, range_array, stat_object, text_or_digits, value_of_datum}
 use Rattle.index_json_laws.specs.Telling.{Behind, astray, has_plain_name, in_array, in_object, nothing, place_before}
 use Rattle.index_json_laws.specs.Telling.{put, put_array, put_before, put_end, put_object, put_text, tell, text_end}
 use Rattle.index_json_laws.specs.Telling.{text_position, told, value_of, whole, whole_value}
-use Rattle.index_json_laws.specs.Value.{Items, Value, array, boolean, item, items_of, items_spelling}
+use Rattle.index_json_laws.specs.Value.{Items, Value, array, item, items_of, items_spelling}
 use Rattle.index_json_laws.specs.Value.{members_spelling, no_items, no_members, object, spelling}
 use Rattle.index_json_laws.proofs.Entries.{datum_text, entry_text, ranges_text, stat_text}
 use Rattle.index_json_laws.proofs.Members.{member_spelled}
@@ -53,7 +53,7 @@ item_spelled place x xs rest text e =
 
 put_before_spelled : (position : Position) (x : Value) (b : Behind) (text : List ℕ) → has_plain_name position ≡ true
     → IsText b text → IsText (put_before position x b) (begin_of position ++ spelling x ++ text)
-unfolding begin_of
+unfolding begin_with
 put_before_spelled alone x text_end text p h = ap (λ (l : List ℕ). spelling x ++ l) h
 put_before_spelled (first name) x (in_object ms true b) text p h =
     (h.0, h.1, (member_spelled [] name (spelling x) x (plain_name name p) refl (record { is = h.2 })).is)
@@ -115,25 +115,25 @@ end_spelled b text h = tt
 
 event_spelled : (event : Event) (b : Behind) (text : List ℕ) → IsText b text
     → IsText (tell event b) (event_text event ++ text)
-unfolding begin_of
-event_spelled (datum_field f d) b text h =
-    put_spelled f.position (value_of_datum d) b (datum_value d) text (datum_text d) h
-event_spelled (text_field f bytes) b text h = text_spelled f.position bytes b text h
-event_spelled (ranges_field f ranges) b text h =
-    put_spelled f.position (array (items_of range_array ranges)) b (written_array range_value ranges) text
+unfolding begin_with
+event_spelled (datum_field indent words position d) b text h =
+    put_spelled position (value_of_datum d) b (datum_value d) text (datum_text d) h
+event_spelled (text_field indent words position bytes) b text h = text_spelled position bytes b text h
+event_spelled (ranges_field indent words position ranges) b text h =
+    put_spelled position (array (items_of range_array ranges)) b (written_array range_value ranges) text
     (ranges_text ranges) h
-event_spelled (stat_field indent position s) b text h =
+event_spelled (stat_field further position s) b text h =
     put_spelled position (stat_object s) b (stat_value s) text (stat_text s) h
 event_spelled (entry_item place r) b text h =
     put_spelled (element place) (entry_object r) b (entry_value r) text (entry_text r) h
 event_spelled (heading indent words) b text h = h
-event_spelled (count_line indent words n) b text h = h
+event_spelled (line_field indent words d) b text h = h
+event_spelled (hidden_field position d) b text h =
+    put_spelled position (value_of_datum d) b (datum_value d) text (datum_text d) h
 event_spelled (begin_object position) b text h = object_spelled position b text h
 event_spelled end_object b text h = (text, h, refl)
 event_spelled (begin_array position) b text h = array_spelled position b text h
 event_spelled end_array b text h = (text, h, refl)
-event_spelled (presence position is_there) b text h =
-    put_spelled position (boolean is_there) b (datum_value (an_answer is_there)) text (datum_text (an_answer is_there)) h
 event_spelled end_text b text h = end_spelled b text h
 
 events_spelled : (events : List Event) → IsText (told events nothing) (print event_text events)

@@ -1,7 +1,8 @@
 -- The values that an event tells by itself (the library's own; the parts of each are those of gitformat-index).
-use Rattle.std.specs.Prelude.{ℕ, List, ◌-◌, ◌++◌, codes, Some, None, if◌then◌else◌}
+use Rattle.std.specs.Prelude.{ℕ, List, ◌-◌, ◌++◌, codes, Some, if◌then◌else◌}
 use Rattle.std.specs.Str.{is_utf8}
-use Rattle.index_events.specs.Event.{Datum, a_block, a_number, a_side, an_answer, an_id, no_value}
+use Rattle.index_events.specs.declared.event.Datum.{Datum}
+use Rattle.index_events.specs.declared.event.Datum.TheVariants.{Answer, Block, Count, Id, Number, Side}
 use Rattle.index_bitmaps.specs.declared.ranges.Range.{Range}
 use Rattle.index_entries.specs.Record.{Record}
 use Rattle.index_metadata.specs.Flags.{stage_number}
@@ -66,11 +67,10 @@ block_object o =
 
 -- what a field says
 abbrev pub value_of_datum : Datum → Value
-value_of_datum (a_number n) = number n
-value_of_datum (an_id None) = null
-value_of_datum (an_id (Some id)) = digits (id_bytes id)
-value_of_datum (an_answer holds) = boolean holds
-value_of_datum (a_side None) = null
-value_of_datum (a_side (Some side)) = side_object side
-value_of_datum (a_block o) = block_object o
-value_of_datum (no_value word) = null
+value_of_datum (Number n) = number n
+value_of_datum (Id (Some id)) = digits (id_bytes id)
+value_of_datum (Answer holds) = boolean holds
+value_of_datum (Side (Some side)) = side_object side
+value_of_datum (Block o) = block_object o
+value_of_datum (Count (Some n)) = number n
+value_of_datum d = null

@@ -3,15 +3,15 @@
 use Rattle.std.specs.Prelude.{ℕ, suc, zero, ◌==◌, ◌&&◌, Bool, true, false, not, nat_le, List, [], ◌∷◌}
 use Rattle.std.specs.Prelude.{Option, Some, None, unwrap_or, if◌then◌else◌}
 use Rattle.index_events.specs.Document.{document_events}
-use Rattle.index_events.specs.Event.{Event, Position, alone, begin_array, begin_object, count_line, datum_field}
-use Rattle.index_events.specs.Event.{element, end_array, end_object, end_text, entry_item, first, heading, next}
-use Rattle.index_events.specs.Event.{presence, ranges_field, stat_field, text_field}
+use Rattle.index_events.specs.Event.{Event, Position, alone, begin_array, begin_object, datum_field, element, end_array}
+use Rattle.index_events.specs.Event.{end_object, end_text, entry_item, first, heading, hidden_field, line_field, next}
+use Rattle.index_events.specs.Event.{ranges_field, stat_field, text_field}
 use Rattle.index_format.specs.Contents.{Contents}
 use Rattle.index_marks.specs.declared.Marks.{Marks}
 use Rattle.index_parts.specs.declared.hash.ObjectId.{ObjectId}
 use Rattle.index_json_laws.specs.EventValues.{entry_object, range_array, stat_object, text_name, text_or_digits}
 use Rattle.index_json_laws.specs.EventValues.{value_of_datum}
-use Rattle.index_json_laws.specs.Value.{Items, Members, Value, array, boolean, item, items_of, member, no_items}
+use Rattle.index_json_laws.specs.Value.{Items, Members, Value, array, item, items_of, member, no_items}
 use Rattle.index_json_laws.specs.Value.{no_members, null, object}
 
 -- What is told behind a place in the list.
@@ -92,18 +92,18 @@ put_end b = astray
 
 -- an event, and what stands behind it
 abbrev pub tell : Event → Behind → Behind
-tell (datum_field f d) b = put f.position (value_of_datum d) b
-tell (text_field f bytes) b = put_text f.position bytes b
-tell (ranges_field f ranges) b = put f.position (array (items_of range_array ranges)) b
-tell (stat_field indent position s) b = put position (stat_object s) b
+tell (datum_field indent words position d) b = put position (value_of_datum d) b
+tell (text_field indent words position bytes) b = put_text position bytes b
+tell (ranges_field indent words position ranges) b = put position (array (items_of range_array ranges)) b
+tell (stat_field further position s) b = put position (stat_object s) b
 tell (entry_item place r) b = put (element place) (entry_object r) b
 tell (heading indent words) b = b
-tell (count_line indent words n) b = b
+tell (line_field indent words d) b = b
+tell (hidden_field position d) b = put position (value_of_datum d) b
 tell (begin_object position) b = put_object position b
 tell end_object b = in_object no_members true b
 tell (begin_array position) b = put_array position b
 tell end_array b = in_array no_items None b
-tell (presence position is_there) b = put position (boolean is_there) b
 tell end_text b = put_end b
 
 -- events, and what stands behind them
@@ -123,4 +123,4 @@ value_of events = whole_value (told events nothing)
 
 -- the value of all that an index file holds
 unfoldable pub document_value : Contents → Option ObjectId → Marks → Value
-document_value c checksum marks = unwrap_or (value_of (document_events true c checksum marks)) null
+document_value c checksum marks = unwrap_or (value_of (document_events c checksum marks)) null

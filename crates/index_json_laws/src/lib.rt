@@ -1,7 +1,7 @@
 //! Laws of the text that the contract of `index_json::write_json` cites. A law computes nothing.
 #![tactic(auto)]
 
-ghost use Rattle.std.specs.Prelude.{◌≡◌, ◌++◌, List, codes, Option, Some, true, ℕ};
+ghost use Rattle.std.specs.Prelude.{◌≡◌, ◌++◌, List, codes, Option, Some, ℕ};
 ghost use Rattle.index_events.specs.Event.{Event, print};
 ghost use Rattle.index_events.specs.Document.{document_events};
 ghost use Rattle.index_format.specs.Contents.{Contents};
@@ -20,7 +20,7 @@ pub fn text_spells_value()
     ensures events { (es : List Event) (v : Value) → value_of es ≡ Some v
         → print event_text es ≡ spelling v ++ codes "\n" }
     ensures told { (c : Contents) (checksum : Option ObjectId) (marks : Marks)
-        → value_of (document_events true c checksum marks)
+        → value_of (document_events c checksum marks)
         ≡ Some (document_value c checksum marks) }
     ensures spelled { (c : Contents) (checksum : Option ObjectId) (marks : Marks)
         → json_text c checksum marks ≡ spelling (document_value c checksum marks) ++ codes "\n" }

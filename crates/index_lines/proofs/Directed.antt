@@ -1,26 +1,31 @@
 -- The lines of a directory, and of those in it.
-use Rattle.std.proofs.Common.{◌≡◌, ◌==◌, false, ℕ, suc, ◌+◌, ◌<◌, ◌≤◌, List, [], ◌∷◌, ◌++◌, length, map, take, drop}
-use Rattle.std.proofs.Common.{get_or, Option, refl, sym, ap, subst, ◌∙◌, append_assoc}
+use Rattle.std.proofs.Common.{◌≡◌, ◌==◌, false, ℕ, ◌+◌, ◌<◌, ◌≤◌, List, [], ◌∷◌, ◌++◌, length, map, take, drop, get_or}
+use Rattle.std.proofs.Common.{Result, Ok, Err, refl, sym, ap, subst, ◌∙◌, append_assoc, take-append-drop}
 use Rattle.std.proofs.Math.Dec.{eqb-suc-zero}
 use Rattle.std.proofs.Math.Seq.{take-append_seam}
 use Rattle.std.specs.List.{flat_map}
-use Rattle.std.specs.Io.KnownBytes.{Appends}
+use Rattle.std.specs.IoError.{error_kind}
+use Rattle.std.specs.declared.io.Error.{Error}
+use Rattle.std.specs.declared.io.ErrorKind.TheVariants.{OutOfMemory}
+use Rattle.std.proofs.lemmas.Grind.{flat_map-append}
 use Rattle.std.proofs.lemmas.List.{flat_map_more, take_all, take_more}
 use Rattle.std.proofs.lemmas.List.Concat.{flat_map-cons}
-use Rattle.index_parts.proofs.Taking.{Appends-nil, Appends-trans, flat_map_at, prefix_after, prefix_before}
-use Rattle.index_parts.specs.Taking.{AppendsPrefix}
+use Rattle.index_parts.specs.declared.hash.io.Out.{Ghosts}
 use Rattle.index_cached_tree.specs.Tree.{Node, node_of, node_step, nodes_from}
 use Rattle.index_cached_tree.specs.declared.Tree.{Tree}
 use Rattle.index_cached_tree.specs.declared.Tree.TheFolds.{fold_out-Tree}
 use Rattle.index_cached_tree.specs.declared.Tree.TheViews.{out-Tree}
+use Rattle.index_text.proofs.Blocks.{blocks_broken, blocks_then, more_waits, no_memory, none_out}
+use Rattle.index_text.specs.Blocks.{PutsBlocks}
 use Rattle.index_text.specs.declared.lines.Lines.{Lines}
-use Rattle.index_lines.specs.Directories.{all_subtree_lines, directory_line, subtree_lines, front_of}
-use Rattle.index_lines.specs.DirectorySteps.{LetsOut}
+use Rattle.index_lines.specs.Directories.{all_subtree_lines, directory_line, front_of, subtree_lines, tree_line}
 
 all_listed : (style : Lines) (front : List ℕ) (ts : List Tree)
-    → all_subtree_lines style front (nodes_from (map node_of ts)) ≡ flat_map (λ t. subtree_lines style front (node_of t)) ts
+    → all_subtree_lines style front (nodes_from (map node_of ts))
+    ≡ flat_map (λ t. subtree_lines style front (node_of t)) ts
 all_listed style front [] = refl
-all_listed style front (t ∷ ts) = ap (λ (l : List ℕ). subtree_lines style front (node_of t) ++ l) (all_listed style front ts)
+all_listed style front (t ∷ ts) =
+    ap (λ (l : List ℕ). subtree_lines style front (node_of t) ++ l) (all_listed style front ts)
     ∙ sym (flat_map-cons (λ (u : Tree). subtree_lines style front (node_of u)) t ts)
 
 -- a directory's own line, and those below it
@@ -32,11 +37,12 @@ lines_out style front t =
     let o = out-Tree t in
     let path = front ++ o.name.items in
     ap (subtree_lines style front) (fold_out-Tree Node node_step t)
-    ∙ ap (λ (l : List ℕ). directory_line style path o.id o.num_entries ++ l) (all_listed style (front_of path) o.children.items)
+    ∙ ap (λ (l : List ℕ). directory_line style path o.id o.num_entries ++ l)
+    (all_listed style (front_of path) o.children.items)
 
 -- the same by what the code has: the directory's path, the front of the names in it, and those
-pub lines_at : (style : Lines) (t : Tree) (front path within : List ℕ) (ts : List Tree) → path ≡ front ++ (out-Tree t).name.items
-    → within ≡ front_of path → ts ≡ (out-Tree t).children.items
+pub lines_at : (style : Lines) (t : Tree) (front path within : List ℕ) (ts : List Tree)
+    → path ≡ front ++ (out-Tree t).name.items → within ≡ front_of path → ts ≡ (out-Tree t).children.items
     → directory_line style path (out-Tree t).id (out-Tree t).num_entries
     ++ flat_map (λ u. subtree_lines style within (node_of u)) ts ≡ subtree_lines style front (node_of t)
 lines_at style t front path within ts a b c =
@@ -46,110 +52,72 @@ lines_at style t front path within ts a b c =
     ap (λ (f : List ℕ). lines path f ts) b ∙ ap (λ (us : List Tree). lines path (front_of path) us) c
     ∙ ap (λ (p : List ℕ). lines p (front_of p) o.children.items) a ∙ sym (lines_out style front t)
 
--- a line comes behind those that wait, and a front of all goes out
-pub line_let_out : {u v : Option (List ℕ)} (waited line all gone waiting : List ℕ) → all ≡ waited ++ line
-    → Appends u v gone → gone ++ waiting ≡ all → LetsOut u v waited line waiting
-line_let_out {u} {v} waited line all gone waiting a b c = record { gone = gone; grew = b; parts = c ∙ a }
+-- the same behind lines that wait
+pub lines_behind : (style : Lines) (t : Tree) (old front path within : List ℕ) (ts : List Tree)
+    → path ≡ front ++ (out-Tree t).name.items → within ≡ front_of path → ts ≡ (out-Tree t).children.items
+    → (old ++ tree_line style path t) ++ flat_map (λ u. subtree_lines style within (node_of u)) ts
+    ≡ old ++ subtree_lines style front (node_of t)
+lines_behind style t old front path within ts a b c =
+    append_assoc old (tree_line style path t) (flat_map (λ u. subtree_lines style within (node_of u)) ts)
+    ∙ ap (λ (l : List ℕ). old ++ l) (lines_at style t front path within ts a b c)
 
--- some lines, and then more
-pub let_out_then : {u v w : Option (List ℕ)} {waited first between then waiting : List ℕ}
-    → LetsOut u v waited first between → LetsOut v w between then waiting → LetsOut u w waited (first ++ then) waiting
-let_out_then {u} {v} {w} {waited} {first} {between} {then} {waiting} a b = record {
-  gone = a.gone ++ b.gone;
-  grew = Appends-trans u v w a.gone b.gone a.grew b.grew;
-  parts = append_assoc a.gone b.gone waiting ∙ ap (λ (l : List ℕ). a.gone ++ l) b.parts
-      ∙ sym (append_assoc a.gone between then) ∙ ap (λ (l : List ℕ). l ++ then) a.parts
-      ∙ append_assoc waited first then;
-}
+-- a directory's own line waits, and then a block of what waits goes out
+pub own_line : {S : Type 0} {w : Ghosts S} {a : S} (old line : List ℕ) {all : List ℕ} → all ≡ old ++ line
+    → PutsBlocks {T = Unit {0}} w a a (Ok tt) all (old ++ line)
+own_line old line e = more_waits line (none_out refl) e
 
--- some lines, and then a front of more
-pub front_let_out : {u v w : Option (List ℕ)} {waited first between : List ℕ} (then : List ℕ)
-    → LetsOut u v waited first between → AppendsPrefix v w (between ++ then)
-    → AppendsPrefix u w (waited ++ (first ++ then))
-front_let_out {u} {v} {w} {waited} {first} {between} then a b =
-    let parts : a.gone ++ (between ++ then) ≡ waited ++ (first ++ then) =
-    sym (append_assoc a.gone between then) ∙ ap (λ (l : List ℕ). l ++ then) a.parts ∙ append_assoc waited first then in
-    subst (λ (l : List ℕ). AppendsPrefix u w l) parts (prefix_after u v w a.gone (between ++ then) a.grew b)
+-- there is no memory for a line
+pub no_own_line : {S T : Type 0} {w : Ghosts S} {a : S} (r : Result T Error) {e : Error} (old text : List ℕ)
+    {later : List ℕ} → r ≡ Err e → error_kind e ≡ OutOfMemory → PutsBlocks w a a r later (old ++ text)
+no_own_line r old text is kind = no_memory r text is kind (none_out {waiting = old} refl) refl
 
--- nothing of any lines
-pub nothing_out : (u : Option (List ℕ)) (lines : List ℕ) → AppendsPrefix u u lines
-nothing_out u lines = record { prefix = []; rest = lines; parts = refl; taken = Appends-nil u }
+-- ---- directories one after another
 
--- some lines, and nothing of more
-pub none_let_out : {u v : Option (List ℕ)} {waited first between : List ℕ} → LetsOut u v waited first between
-    → (then : List ℕ) → AppendsPrefix u v (waited ++ (first ++ then))
-none_let_out {u} {v} {waited} {first} {between} a then = front_let_out then a (nothing_out v (between ++ then))
+module _ (style : Lines) (base front : List ℕ) (ts : List Tree) where
+  -- the lines of one directory more
+  pub children_more : {S T U : Type 0} {w : Ghosts S} {a b c : S} {x : U} (r : Result T Error) (inner : List ℕ) (i : ℕ)
+      (t : Tree) {mid new : List ℕ} → i < length ts → t ≡ get_or ts i t → inner ≡ front
+      → PutsBlocks w a b (Ok x) mid (base ++ flat_map (λ t. subtree_lines style front (node_of t)) (take i ts))
+      → PutsBlocks w b c r new (mid ++ subtree_lines style inner (node_of t))
+      → PutsBlocks w a c r new (base ++ flat_map (λ t. subtree_lines style front (node_of t)) (take (i + 1) ts))
+  children_more {w = w} {a = a} {b = b} {c = c} r inner i t {mid = mid} {new = new} lt is same before then =
+      let f : Tree → List ℕ = λ t. subtree_lines style front (node_of t) in
+      let own : PutsBlocks w b c r new (mid ++ f t) =
+      subst (λ (l : List ℕ). PutsBlocks w b c r new (mid ++ subtree_lines style l (node_of t))) same then in
+      let here : PutsBlocks w b c r new (mid ++ f (get_or ts i t)) =
+      subst (λ (u : Tree). PutsBlocks w b c r new (mid ++ f u)) is own in
+      subst (λ (l : List ℕ). PutsBlocks w a c r new l)
+      (append_assoc base (flat_map f (take i ts)) (f (get_or ts i t)) ∙ ap (λ (l : List ℕ). base ++ l)
+      (flat_map_more f [] (take i ts) (get_or ts i t) ∙ ap (flat_map f) (sym (take_more ts i t lt))))
+      (blocks_then r (f (get_or ts i t)) before here)
 
--- a front of what waited with one line more, of a directory with lines below it
-pub front_of_line : {u v : Option (List ℕ)} (waited line all whole below : List ℕ) → all ≡ waited ++ line
-    → line ++ below ≡ whole → AppendsPrefix u v all → AppendsPrefix u v (waited ++ whole)
-front_of_line {u} {v} waited line all whole below a b p =
-    let parts : all ++ below ≡ waited ++ whole =
-    ap (λ (l : List ℕ). l ++ below) a ∙ append_assoc waited line below ∙ ap (λ (l : List ℕ). waited ++ l) b in
-    subst (λ (l : List ℕ). AppendsPrefix u v l) parts (prefix_before p below)
+  -- which broke off
+  pub children_broken : {S T U V : Type 0} {w : Ghosts S} {a b c : S} {x : U} (r : Result T Error) {e : Error}
+      (inner : List ℕ) (i : ℕ) (t : Tree) {mid new later : List ℕ} → r ≡ Err e → i < length ts → t ≡ get_or ts i t
+      → inner ≡ front
+      → PutsBlocks w a b (Ok x) mid (base ++ flat_map (λ t. subtree_lines style front (node_of t)) (take i ts))
+      → PutsBlocks {T = V} w b c (Err e) new (mid ++ subtree_lines style inner (node_of t))
+      → PutsBlocks w a c r later (base ++ flat_map (λ t. subtree_lines style front (node_of t)) ts)
+  children_broken r {e = e} inner i t is lt here same before then =
+      let f : Tree → List ℕ = λ t. subtree_lines style front (node_of t) in
+      blocks_broken r (flat_map f (drop (i + 1) ts)) is (children_more (Err e) inner i t lt here same before then)
+      (append_assoc base (flat_map f (take (i + 1) ts)) (flat_map f (drop (i + 1) ts))
+      ∙ ap (λ (l : List ℕ). base ++ l) (sym (flat_map-append f (take (i + 1) ts) (drop (i + 1) ts))
+      ∙ ap (flat_map f) (take-append-drop (i + 1) ts)))
 
--- the lines of one directory more
-pub children_more : (style : Lines) {u v w : Option (List ℕ)} (front inner : List ℕ) (ts : List Tree) (i : ℕ) (x : Tree)
-    {waited between waiting : List ℕ} → i < length ts → x ≡ get_or ts i x → inner ≡ front
-    → LetsOut u v waited (flat_map (λ t. subtree_lines style front (node_of t)) (take i ts)) between
-    → LetsOut v w between (subtree_lines style inner (node_of x)) waiting
-    → LetsOut u w waited (flat_map (λ t. subtree_lines style front (node_of t)) (take (i + 1) ts)) waiting
-children_more style {u} {v} {w} front inner ts i x {waited} {between} {waiting} lt is same a b =
-    let f : Tree → List ℕ = λ t. subtree_lines style front (node_of t) in
-    let own : LetsOut v w between (f x) waiting =
-    subst (λ (l : List ℕ). LetsOut v w between (subtree_lines style l (node_of x)) waiting) same b in
-    let here : LetsOut v w between (f (get_or ts i x)) waiting =
-    subst (λ (y : Tree). LetsOut v w between (f y) waiting) is own in
-    subst (λ (l : List ℕ). LetsOut u w waited l waiting)
-    (flat_map_more f [] (take i ts) (get_or ts i x) ∙ ap (flat_map f) (sym (take_more ts i x lt))) (let_out_then a here)
+  -- all of them
+  pub children_all : {S U : Type 0} {w : Ghosts S} {a b : S} {x : U} (i : ℕ) {new : List ℕ} → length ts ≤ i
+      → PutsBlocks w a b (Ok x) new (base ++ flat_map (λ t. subtree_lines style front (node_of t)) (take i ts))
+      → PutsBlocks w a b (Ok x) new (base ++ flat_map (λ t. subtree_lines style front (node_of t)) ts)
+  children_all {w = w} {a = a} {b = b} {x = x} i {new = new} le before =
+      subst (λ (us : List Tree). PutsBlocks w a b (Ok x) new
+      (base ++ flat_map (λ t. subtree_lines style front (node_of t)) us)) (take_all i ts le) before
 
--- a front of them
-pub front_of_children : (style : Lines) {u v w : Option (List ℕ)} (front inner : List ℕ) (ts : List Tree) (i : ℕ) (x : Tree)
-    {waited between : List ℕ} → i < length ts → x ≡ get_or ts i x → inner ≡ front
-    → LetsOut u v waited (flat_map (λ t. subtree_lines style front (node_of t)) (take i ts)) between
-    → AppendsPrefix v w (between ++ subtree_lines style inner (node_of x))
-    → AppendsPrefix u w (waited ++ flat_map (λ t. subtree_lines style front (node_of t)) ts)
-front_of_children style {u} {v} {w} front inner ts i x {waited} {between} lt is same a b =
-    let f : Tree → List ℕ = λ t. subtree_lines style front (node_of t) in
-    let rest = flat_map f (drop (suc i) ts) in
-    let own : AppendsPrefix v w (between ++ f x) =
-    subst (λ (l : List ℕ). AppendsPrefix v w (between ++ subtree_lines style l (node_of x))) same b in
-    let here : AppendsPrefix v w (between ++ f (get_or ts i x)) =
-    subst (λ (y : Tree). AppendsPrefix v w (between ++ f y)) is own in
-    let parts : (waited ++ (flat_map f (take i ts) ++ f (get_or ts i x))) ++ rest ≡ waited ++ flat_map f ts =
-    append_assoc waited (flat_map f (take i ts) ++ f (get_or ts i x)) rest
-    ∙ ap (λ (l : List ℕ). waited ++ l) (sym (flat_map_at f ts i x lt)) in
-    subst (λ (l : List ℕ). AppendsPrefix u w l) parts (prefix_before (front_let_out (f (get_or ts i x)) a here) rest)
-
--- all of them
-pub children_all : (style : Lines) {u v : Option (List ℕ)} (front : List ℕ) (ts : List Tree) (i : ℕ)
-    {waited waiting : List ℕ} → length ts ≤ i
-    → LetsOut u v waited (flat_map (λ t. subtree_lines style front (node_of t)) (take i ts)) waiting
-    → LetsOut u v waited (flat_map (λ t. subtree_lines style front (node_of t)) ts) waiting
-children_all style {u} {v} front ts i {waited} {waiting} le a =
-    subst (λ (us : List Tree). LetsOut u v waited (flat_map (λ t. subtree_lines style front (node_of t)) us) waiting)
-    (take_all i ts le) a
-
--- the last lines of a whole tree go out
-pub all_of_last : (style : Lines) {u v : Option (List ℕ)} (w : Option (List ℕ)) {lines front waiting : List ℕ}
-    (n : Node) → lines ≡ [] → front ≡ []
-    → LetsOut u v lines (subtree_lines style front n) waiting → Appends v w waiting
-    → Appends u w (subtree_lines style [] n)
-all_of_last style {u} {v} w {lines} {front} {waiting} n none root a b =
-    let all : LetsOut u v [] (subtree_lines style [] n) waiting =
-    subst (λ (l : List ℕ). LetsOut u v l (subtree_lines style [] n) waiting) none
-    (subst (λ (l : List ℕ). LetsOut u v lines (subtree_lines style l n) waiting) root a) in
-    subst (λ (l : List ℕ). Appends u w l) all.parts (Appends-trans u v w all.gone waiting all.grew b)
-
--- a front of them
-pub front_of_last : (style : Lines) {u v w : Option (List ℕ)} {lines front waiting : List ℕ} (n : Node) → lines ≡ [] → front ≡ []
-    → LetsOut u v lines (subtree_lines style front n) waiting → AppendsPrefix v w waiting
-    → AppendsPrefix u w (subtree_lines style [] n)
-front_of_last style {u} {v} {w} {lines} {front} {waiting} n none root a b =
-    let all : LetsOut u v [] (subtree_lines style [] n) waiting =
-    subst (λ (l : List ℕ). LetsOut u v l (subtree_lines style [] n) waiting) none
-    (subst (λ (l : List ℕ). LetsOut u v lines (subtree_lines style l n) waiting) root a) in
-    subst (λ (l : List ℕ). AppendsPrefix u w l) all.parts (prefix_after u v w all.gone waiting all.grew b)
+-- the lines of a whole tree, behind nothing
+pub whole_tree : (style : Lines) (lines front : List ℕ) (n : Node) → lines ≡ [] → front ≡ []
+    → lines ++ subtree_lines style front n ≡ subtree_lines style [] n
+whole_tree style lines front n none root =
+    ap (λ (l : List ℕ). l ++ subtree_lines style front n) none ∙ ap (λ (f : List ℕ). subtree_lines style f n) root
 
 back : (front name more : List ℕ) → take (length front) ((front ++ name) ++ more) ≡ front
 back front name more = ap (take (length front)) (append_assoc front name more) ∙ take-append_seam front (name ++ more)

@@ -1,10 +1,9 @@
 //! The listing of an index: a line for each entry.
 
-ghost use Rattle.std.specs.Prelude.{◌≡◌, ◌<◌, length, OnOk, ◌++◌, false};
+ghost use Rattle.std.specs.Prelude.{◌≡◌, ◌<◌, OnOk, ◌++◌};
 ghost use Rattle.index_parts.specs.Id.{id_bytes};
 ghost use Rattle.index_text.specs.Blocks.{PutsText};
-ghost use Rattle.index_state.specs.State.{PathsInStorage, contents, storage_of};
-ghost use Rattle.index_entries.specs.Record.{IsPlaced};
+ghost use Rattle.index_state.specs.State.{contents};
 ghost use Rattle.index_lines.specs.Line.{entry_line, line_of_parts, listing};
 
 use bitflags::Flags as _;
@@ -43,7 +42,6 @@ fn append_parts(
 
 /// Appends an entry's line.
 fn append_line(lines: &mut Vec<u8>, style: Lines, state: &State, entry: &Entry) -> Appended
-    requires { IsPlaced (length (storage_of state.now)) entry.now }
     ensures { OnOk result (lines.new.items ≡ lines.old.items ++ entry_line style state.now
         entry.now) }
 {
@@ -70,8 +68,6 @@ pub fn write_listing<W: Out>(
     style: Lines,
     out: &mut W,
 ) -> io::Result<()>
-    requires paths { PathsInStorage state.now }
-    requires unfailed { W.failed out.old ≡ false }
     ensures { PutsText W.Out out.old out.new result (listing style (contents state.now).records) }
 {
     let mut lines = Vec::with_capacity(alloc, BLOCK_LEN + SPARE_LEN)?;

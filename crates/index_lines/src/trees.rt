@@ -1,6 +1,6 @@
 //! The lines of trees: one for each directory.
 
-ghost use Rattle.std.specs.Prelude.{◌≡◌, ◌++◌, [], OnOk, false};
+ghost use Rattle.std.specs.Prelude.{◌≡◌, ◌++◌, [], OnOk};
 ghost use Rattle.std.specs.List.{flat_map};
 ghost use Rattle.index_text.specs.Blocks.{PutsText};
 ghost use Rattle.index_cached_tree.specs.Tree.{node_of};
@@ -61,10 +61,9 @@ fn append_directory<W: Out>(
     tree: &Tree,
     out: &mut W,
 ) -> io::Result<()>
-    requires { W.failed out.old ≡ false }
-    ensures written { PutsLines W.Out out.old out.new result lines.old.items
-        (subtree_lines style front.old.items (node_of tree.now)) lines.new.items }
-    ensures front { OnOk result (front.new.items ≡ front.old.items) }
+    ensures { PutsLines W.Out out.old out.new result lines.old.items lines.new.items
+        (subtree_lines style front.old.items (node_of tree.now)) front.old.items
+        front.new.items }
 {
     let len = front.len();
     front.extend_from_slice(tree.name.as_slice())?;
@@ -85,11 +84,9 @@ fn append_directories<W: Out>(
     trees: &[Tree],
     out: &mut W,
 ) -> io::Result<()>
-    requires { W.failed out.old ≡ false }
-    ensures written { PutsLines W.Out out.old out.new result lines.old.items
+    ensures { PutsLines W.Out out.old out.new result lines.old.items lines.new.items
         (flat_map (λ t. subtree_lines style front.old.items (node_of t)) trees.now)
-        lines.new.items }
-    ensures front { OnOk result (front.new.items ≡ front.old.items) }
+        front.old.items front.new.items }
 {
     for tree in trees {
         append_directory(lines, style, front, tree, out)?;
@@ -103,7 +100,6 @@ fn append_directories<W: Out>(
 /// The lines wait in one buffer, which goes out past 64 KiB. An error is want of memory for that buffer or for a path
 /// ([`ErrorKind::OutOfMemory`]), or the output's, which has failed then; what was written by then is a prefix of them.
 pub fn write_trees<W: Out>(alloc: Global, tree: &Tree, style: Lines, out: &mut W) -> io::Result<()>
-    requires { W.failed out.old ≡ false }
     ensures { PutsText W.Out out.old out.new result (subtree_lines style [] (node_of tree.now)) }
 {
     let mut lines = Vec::new(alloc);

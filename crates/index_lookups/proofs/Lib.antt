@@ -12,6 +12,7 @@ pub mod PathOrder
 pub mod PresentCount
 pub mod RunFilters
 pub mod RunsFound
+pub mod SearchAnswers
 pub mod SharedNames
 pub mod SortedNames
 pub mod SpanOrder

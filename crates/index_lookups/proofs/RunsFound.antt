@@ -1,8 +1,8 @@
 -- Runs of a row of answers, as runs of the records behind it.
 use Rattle.std.proofs.Common.{◌≡◌, ◌≢◌, ℕ, ◌<◌, ◌≤◌, ◌⊎◌, inl, inr, Bool, true, false, List, [], ◌∷◌, ◌++◌, length}
-use Rattle.std.proofs.Common.{get_or, take, map, All, Option, Some, None, refl, sym, ap, ◌∙◌, subst, arith}
+use Rattle.std.proofs.Common.{get_or, take, map, All, Option, Some, None, IfSome, refl, sym, ap, ◌∙◌, subst, arith}
 use Rattle.std.proofs.Math.ListN.{get_or-map}
-use Rattle.std.specs.List.{AllPairs, AllWithin}
+use Rattle.std.specs.List.{AllWithin}
 use Rattle.std.specs.Ordering.{is_lt, is_le, is_eq}
 use Rattle.std.specs.declared.cmp.Ordering.{Ordering}
 use Rattle.std.specs.declared.cmp.Ordering.TheVariants.{Less, Equal, Greater}
@@ -19,7 +19,7 @@ use Rattle.index_search.proofs.Halving.{split_by, count_by_is}
 use Rattle.index_search.proofs.OrderedAnswers.{rising_of}
 use Rattle.index_lookups.proofs.Lookup.{split_by_path}
 use Rattle.index_entries.proofs.Orders.{paths_total}
-use Rattle.index_lookups.specs.Range.{IsRun, IsRange, IsPrefixRange, is_at, begins_with}
+use Rattle.index_lookups.specs.Range.{FindsRange, IsPart, IsRun, IsRange, IsPrefixRange, is_at, begins_with}
 use Rattle.index_search.proofs.Prefixes.{prefixes_rise, below_by_prefix}
 
 -- ---- what holds of a row holds of the list behind it
@@ -98,6 +98,15 @@ module _ {X : Type 0} (cmp : X → Ordering) (test : X → Bool) (same : (x : X)
   range_map None h = λ k d within. within_map is_eq cmp test false xs 0 (length (map cmp xs)) same
       (λ i e l u. h i e u) k d (omega arith) (omega (arith, length-map xs cmp))
   range_map (Some p) h = (h.0, run_map p.start p.end h.1)
+
+  part_map : (r : Option (Range ℕ)) → IfSome r (IsPart (map cmp xs)) → IfSome r (IsPart xs)
+  part_map None h = tt
+  part_map (Some p) h = (h.0, omega (arith, h.1, length-map xs cmp))
+
+  pub found_map : (A B : Type 0) → (B → A) → (r : Option (Range ℕ)) → FindsRange is_eq A (map cmp xs) r
+      → FindsRange test B xs r
+  found_map A B rise r h =
+      record { in_range = part_map r h.in_range; exactly = λ o. range_map r (h.exactly (rise o)) }
 
 -- ---- the tests that equal answers are
 

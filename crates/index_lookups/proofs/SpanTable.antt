@@ -173,8 +173,20 @@ dirs_named P rs names dirs h = (
   subst P (sym (sorted_length names)) h,
 )
 
-pub dirs_bounded : (rs : List Record) (path : List ℕ) (names : List (List ℕ)) (count : ℕ) → AreDirs rs names
-    → count ≤ search_bound (last_slash path) path rs (length names) → IsBounded rs path count
-dirs_bounded rs path names count dirs h =
+pub dirs_bounded : (rs : List Record) (path : List ℕ) (names : List (List ℕ)) (count : ℕ) → IsOrderedByPath rs
+    → AreDirs rs names → count ≤ search_bound (last_slash path) path rs (length names) → (0 < length rs → 1 ≤ count)
+    → IsBounded rs path count
+dirs_bounded rs path names count ordered dirs h one =
     let named = dirs_named (λ n. count ≤ search_bound (last_slash path) path rs n) rs names dirs h in
-    record { names = named.0; dirs = named.1; at_most = named.2 }
+    record { ordered = ordered; names = named.0; dirs = named.1; at_most = named.2; at_least_one = one }
+
+pub bounded_less : (rs : List Record) (path : List ℕ) (more count : ℕ) → IsBounded rs path more → count ≤ more
+    → (0 < length rs → 1 ≤ count) → IsBounded rs path count
+bounded_less rs path more count h less one =
+    record {
+      ordered = h.ordered;
+      names = h.names;
+      dirs = h.dirs;
+      at_most = omega (arith, h.at_most);
+      at_least_one = one;
+    }

@@ -1,5 +1,5 @@
 -- What halving a table of names finds.
-use Rattle.std.proofs.Common.{◌≡◌, ◌≢◌, ℕ, zero, suc, [], ◌∷◌, ◌+◌, ◌/◌, ◌<◌, ◌≤◌, ◌⊎◌, inl, inr, Bool, true, false}
+use Rattle.std.proofs.Common.{◌≡◌, ◌≢◌, ℕ, zero, suc, [], ◌∷◌, ◌<◌, ◌≤◌, ◌⊎◌, inl, inr, Bool, true, false}
 use Rattle.std.proofs.Common.{List, length, get_or, map, Some, None, Result, Err, IfErr, refl, sym, ap, ◌∙◌, subst}
 use Rattle.std.proofs.Common.{arith}
 use Rattle.std.proofs.Math.ListN.{get_or-map}
@@ -11,8 +11,6 @@ use Rattle.std.specs.declared.cmp.Ordering.TheVariants.{Less, Equal, Greater}
 use Rattle.std.proofs.lemmas.Bool.{cases_lt, false_from_ne_true}
 use Rattle.std.proofs.lemmas.Bool.Decides.{nat_tests}
 use Rattle.std.proofs.lemmas.List.{length-map, get_or_default, get_or-map as at_map}
-use Rattle.index_search.specs.Digits.{digits}
-use Rattle.index_search.proofs.Digits.{digits-half, digits_small}
 use Rattle.index_entries.specs.Record.{Record}
 use Rattle.index_search.proofs.Halving.{position_is, position_none, split_by}
 use Rattle.index_lookups.proofs.Outer.{order_total, same_name}

@@ -1,7 +1,7 @@
 -- What a search by way of a table of directories finds.
 use Rattle.std.proofs.Common.{◌≡◌, ℕ, zero, suc, ◌+◌, ◌-◌, ◌/◌, ◌<◌, ◌≤◌, ◌⊎◌, inl, inr, Bool, true, false, List, []}
-use Rattle.std.proofs.Common.{◌∷◌, ◌++◌, length, get_or, take, map, All, Some, Result, Ok, Err, IfOk, IfErr, refl, sym}
-use Rattle.std.proofs.Common.{ap, ◌∙◌, subst, arith, nat_eq}
+use Rattle.std.proofs.Common.{◌∷◌, ◌++◌, length, get_or, take, map, All, Some, None, Result, Ok, Err, IfOk, IfErr, refl}
+use Rattle.std.proofs.Common.{sym, ap, ◌∙◌, subst, arith, nat_eq}
 use Rattle.std.proofs.Math.ListN.{get_or-map}
 use Rattle.std.specs.List.{AllPairs, Contains, HoldsAt, list_any, count_by}
 use Rattle.std.specs.Prelude.{◌||◌}
@@ -183,6 +183,12 @@ pub window_absent : (rs : List Record) (path : List ℕ) (dirs slash count n : �
 window_absent rs path dirs slash count n e none len few =
     let same : digits (n - 0) ≡ digits (length rs) = ap digits (omega (arith, len)) in
     rw (e, none) (omega (arith, few, same))
+
+pub window_whole : (rs : List Record) (path : List ℕ) (dirs n : ℕ) → last_slash path ≡ None → n ≡ length rs
+    → 0 + digits (n - 0) + 1 ≤ search_bound (last_slash path) path rs dirs
+window_whole rs path dirs n e len =
+    let same : digits (n - 0) ≡ digits (length rs) = ap digits (omega (arith, len)) in
+    rw e (omega (arith, same))
 
 or_none : (a b : Bool) → (a || b) ≡ false → (a ≡ false) × (b ≡ false)
 or_none true b e = cc

@@ -12,7 +12,11 @@ use Rattle.std.specs.declared.cmp.Ordering.TheVariants.{Less, Equal, Greater}
 use Rattle.std.proofs.lemmas.Bool.{cases_lt, false_from_ne_true}
 use Rattle.std.proofs.lemmas.Bool.Decides.{nat_tests}
 use Rattle.std.proofs.lemmas.List.{get_or_default, length-map}
-use Rattle.index_metadata.specs.Flags.{stage_number}
+use Rattle.index_metadata.specs.Flags.{stage_code, stage_number}
+use denote.Enum.Declared.{tag_of}
+use Rattle.index_metadata.specs.contracts.entry.flags.Stage.{the_type}
+use Rattle.index_metadata.specs.declared.entry.flags.Stage.{Stage}
+use Rattle.index_metadata.specs.declared.entry.flags.Stage.TheVariants.{Unconflicted, Base, Ours, Theirs}
 use Rattle.index_entries.specs.declared.Entry.{Entry}
 use Rattle.index_lookups.specs.Lookup.{HasKey, has_key, place_of}
 use Rattle.index_entries.specs.Order.{IsOrderedByPath, IsStrictlyOrdered, path_cmp, record_cmp, record_stage}
@@ -30,6 +34,27 @@ use Rattle.index_lookups.proofs.Lookup.{split_by_path}
 use Rattle.index_search.proofs.Parting.{less_from}
 use Rattle.index_lookups.proofs.RunsFound.{at_is}
 use Rattle.index_lookups.proofs.TableMade.{and_both}
+
+-- ---- where one stands
+
+pub asked_path : (path : List ℕ) (stage : Option Stage) (rs : List Record) (place : ℕ) (p : List ℕ) (o : Ordering)
+    → HoldsAt (λ r. r.path ≡ p) rs place → o ≡ path_cmp p path → stage ≡ None
+    → HoldsAt (λ r. asked_cmp path stage r ≡ o) rs place
+asked_path path stage rs place p o name told e d = rw e (ap (λ (q : List ℕ). path_cmp q path) (name d) ∙ sym told)
+
+pub stage_tag : (stage : Stage) → tag_of the_type stage ≡ stage_code stage
+stage_tag Unconflicted = refl
+stage_tag Base = refl
+stage_tag Ours = refl
+stage_tag Theirs = refl
+
+pub asked_key : (path : List ℕ) (stage : Option Stage) (rs : List Record) (place : ℕ) (p : List ℕ)
+    (o by_stage : Ordering) → HoldsAt (λ r. r.path ≡ p) rs place → o ≡ path_cmp p path → (own : Stage) → stage ≡ Some own → (entry : Entry)
+    → HoldsAt (IsRecordOf entry) rs place
+    → by_stage ≡ nat_cmp (stage_number entry.flags.0) (stage_code own)
+    → HoldsAt (λ r. asked_cmp path stage r ≡ ordering_then o by_stage) rs place
+asked_key path stage rs place p o by_stage name told own e entry is by d =
+    rw (e, name d, (is d).flags, told, by) refl
 
 not_first : (a b : Bool) → a ≡ false → (a && b) ≡ false
 not_first a b e = rw e refl
@@ -97,8 +122,8 @@ module _ (path : List ℕ) (wanted : Wanted) (rs : List Record) (low : ℕ)
         → Some place ≡ position (is_wanted_at path wanted) rs
     first_some within h = sym (position_is (is_wanted_at path wanted) rs place within (λ k d l u. so_far k d u) h)
 
-    pub first_end : (end : ℕ) → low ≤ place → end ≤ place → IsEnoughUpto (is_wanted_at path wanted) rs low end
-        → None ≡ position (is_wanted_at path wanted) rs
+    pub first_end : (end : ℕ) → low ≤ place → min end (length rs) ≤ place
+        → IsEnoughUpto (is_wanted_at path wanted) rs low end → None ≡ position (is_wanted_at path wanted) rs
     first_end end from past enough =
         sym (position_none (is_wanted_at path wanted) rs (λ k d within. by k d within (cases_lt k place)))
       where

@@ -1,9 +1,9 @@
 -- What one step of a filter over entries with their paths does (the library's own).
-use Rattle.std.specs.Prelude.{◌≡◌, All, length, List, ℕ, [], ◌∷◌, ◌++◌, Option, Some, None, MatchOption}
+use Rattle.std.specs.Prelude.{◌≡◌, List, ℕ, [], ◌∷◌, ◌++◌, Option, Some, None, MatchOption}
 use Rattle.std.specs.List.{FoldsTo}
 use denote.Ref.{Bor}
 use Rattle.index_entries.specs.declared.Entry.{Entry}
-use Rattle.index_entries.specs.Record.{IsPlaced, record_in}
+use Rattle.index_entries.specs.Record.{record_in}
 use Rattle.index_lookups.specs.declared.paths.FilterMapPaths.{FilterMapPaths}
 
 -- the closure looked at the entry with its path and gave r
@@ -32,9 +32,11 @@ storage_left s = s.backing.now
 abbrev pub closure_of : {F : Type 0} → FilterMapPaths F → F
 closure_of s = s.filter_map
 
--- the paths of what is left lie in the storage
-abbrev pub ArePlaced : {F : Type 0} → FilterMapPaths F → Type 0
-ArePlaced s = All (IsPlaced (length (storage_left s))) (entries_left s)
+-- these entries are left to look at, with their paths in this storage and by this closure
+pub record IsFilterOf {F : Type 0} (es : List Entry) (storage : List ℕ) (f : F) (s : FilterMapPaths F) : Type 0 where
+  pub entries : entries_left s ≡ es
+  pub backing : storage_left s ≡ storage
+  pub closure : closure_of s ≡ f
 
 -- one step gave r, and the storage stayed as it is
 abbrev pub StepsTo : {F T : Type 0} → (F → Bor (List ℕ) → Bor Entry → Option T → F → Type 0) → FilterMapPaths F

@@ -6,6 +6,7 @@ pub mod NameSteps
 pub mod Range
 pub mod RangeSteps
 pub mod SearchSteps
+pub mod Searches
 pub mod SpanSteps
 pub mod Tables
 pub mod WalkSteps

@@ -1,7 +1,7 @@
 -- Which places of a list of records have a path, or begin with a prefix (the library's own). Each definition speaks of
 -- any list; over records ordered by path such places stand together.
 use Rattle.std.specs.Prelude.{◌≡◌, ℕ, ◌<◌, ◌≤◌, ◌⊎◌, Bool, true, false, List, [], ◌∷◌, length, All, Option, Some, None}
-use Rattle.std.specs.Prelude.{MatchOption, nat_eq, slice_range}
+use Rattle.std.specs.Prelude.{IfSome, MatchOption, nat_eq, slice_range}
 use Rattle.std.specs.List.{AllWithin, starts_with}
 use Rattle.std.specs.Option.{option_or}
 use Rattle.std.specs.Str.{bytes_eq}
@@ -36,6 +36,12 @@ IsPart xs p = (p.start < p.end) × (p.end ≤ length xs)
 -- all places that pass; None where none does
 abbrev pub IsRange : {X : Type 0} → (X → Bool) → List X → Option (Range ℕ) → Type 0
 IsRange test xs r = MatchOption r (All (λ x. test x ≡ false) xs) (λ p. (p.start < p.end) × IsRun test xs p.start p.end)
+
+-- all places that pass, where the list is in order; else some places of the list, or None
+pub record FindsRange {X : Type 0} (test : X → Bool) (ordered : Type 0) (xs : List X) (r : Option (Range ℕ)) : Type 0
+  where
+    pub in_range : IfSome r (IsPart xs)
+    pub exactly : ordered → IsRange test xs r
 
 -- all places that begin with the prefix, or None; with the empty one always the whole list
 abbrev pub IsPrefixRange : List ℕ → List Record → Option (Range ℕ) → Type 0

@@ -1,12 +1,12 @@
 -- The directories that records stand below, and how far a search by way of them goes (the library's own). Each
 -- definition speaks of any list; a table of directories is made of records ordered by path.
-use Rattle.std.specs.Prelude.{◌≡◌, ◌↔◌, ℕ, zero, suc, ◌≤◌, ◌+◌, ◌==◌, true, List, length, take, Contains, Option, Some}
-use Rattle.std.specs.Prelude.{None, slice_index, count_by, if◌then◌else◌}
+use Rattle.std.specs.Prelude.{◌≡◌, ◌↔◌, ℕ, zero, suc, ◌<◌, ◌≤◌, ◌+◌, ◌==◌, true, List, length, take, Contains, Option}
+use Rattle.std.specs.Prelude.{Some, None, slice_index, count_by, if◌then◌else◌}
 use Rattle.std.specs.List.{AllPairs, list_any}
 use denote.Ref.{Bor}
 use Rattle.std.specs.declared.cmp.Ordering.TheVariants.{Less}
 use Rattle.index_search.specs.Digits.{digits}
-use Rattle.index_entries.specs.Order.{path_cmp}
+use Rattle.index_entries.specs.Order.{IsOrderedByPath, path_cmp}
 use Rattle.index_entries.specs.Record.{Record}
 use Rattle.index_lookups.specs.Closest.{is_below}
 use Rattle.index_lookups.specs.Range.{is_at}
@@ -32,11 +32,13 @@ search_bound (Some slash) path rs dirs =
     if list_any (is_below (take slash path)) rs then digits dirs + digits (count_by (is_below (take slash path)) rs) + 2
     else digits dirs + digits (length rs) + 2
 
--- by way of the directories of these records a search of the path compares so many names and paths
+-- the records are in order, and by way of their directories a search of the path compares so many names and paths
 pub record IsBounded (rs : List Record) (path : List ℕ) (count : ℕ) : Type 0 where
+  pub ordered : IsOrderedByPath rs
   pub names : List (List ℕ)
   pub dirs : IsDirs rs names
   pub at_most : count ≤ search_bound (last_slash path) path rs (length names)
+  pub at_least_one : 0 < length rs → 1 ≤ count
 
 -- of the paths, those that some record has
 abbrev pub present_count : List (Bor (List ℕ)) → List Record → ℕ

@@ -1,10 +1,10 @@
 //! Lookups with the case of ASCII letters ignored where asked, over entries in any order.
 
-ghost use Rattle.std.specs.Prelude.{◌≡◌, ◌<◌, ◌≤◌, ◌+◌, ℕ, List, All, length, IfOk, is_some, false, true};
-ghost use Rattle.index_search.specs.Digits.{digits};
-ghost use Rattle.index_entries.specs.Record.{Record, IsPlaced, records_in};
-ghost use Rattle.index_lookups.specs.Folded.{IsNamed, folded_closest, folded_place};
+ghost use Rattle.std.specs.Prelude.{◌≡◌, ℕ, List, length, IfOk, is_some, false, true};
+ghost use Rattle.index_entries.specs.Record.{Record, records_in};
+ghost use Rattle.index_lookups.specs.Folded.{IsNamed, folded_closest};
 ghost use Rattle.index_lookups.specs.NameSteps.{AreNames};
+ghost use Rattle.index_lookups.specs.Searches.{SearchesDirectory, SearchesFolded};
 
 use crate::names::{Named, find, path_table};
 use crate::walk::directory_table;
@@ -41,7 +41,6 @@ impl<'a> AccelerateLookup<'a> {
         entries: &'a [Entry],
         backing: &'a [u8],
     ) -> Result<AccelerateLookup<'a>, AllocError>
-        requires { All (IsPlaced (length backing.now)) entries.now }
         ensures { IfOk result (λ lookup. lookup ≡ records_in backing.now entries.now) }
     {
         let entries = EntrySlice::new(entries, backing);
@@ -73,9 +72,7 @@ impl<'a> AccelerateLookup<'a> {
     /// The index of the first entry at the path, in the order of the entries, or None; and how many paths were
     /// compared: of n entries at most one more than n has binary digits, and at least one where there are entries.
     pub fn search_path_icase(&self, path: &[u8], ignore_case: bool) -> (Option<usize>, usize)
-        ensures answer { result.0 ≡ folded_place ignore_case path.now self.now }
-        ensures count { result.1 ≤ digits (length self.now) + 1 }
-        ensures at_least_one { 0 < length self.now → 1 ≤ result.1 }
+        ensures { SearchesFolded ignore_case path.now self.now result }
     {
         if ignore_case {
             find(&self.folded_paths, path, true, false)
@@ -92,11 +89,7 @@ impl<'a> AccelerateLookup<'a> {
         directory: &[u8],
         ignore_case: bool,
     ) -> (Option<usize>, usize)
-        ensures answer { result.0 ≡ folded_closest ignore_case directory.now self.now }
-        ensures count { (names : List (List ℕ)) × IsNamed ignore_case self.now names
-            × (result.1 ≤ digits (length names) + 1) }
-        ensures at_least_one { (names : List (List ℕ)) × IsNamed ignore_case self.now names
-            × (0 < length names → 1 ≤ result.1) }
+        ensures { SearchesDirectory ignore_case directory.now self.now result }
     {
         if ignore_case {
             find(&self.folded_directories, directory, true, true)

@@ -1,13 +1,13 @@
 //! Names in their order, with the case of ASCII letters ignored where asked, each with the place of an entry.
 
-ghost use Rattle.std.specs.Prelude.{◌≡◌, ◌≢◌, ◌+◌, ◌<◌, ◌≤◌, ℕ, Bool, List, AllPairs, length, map, position, IfOk};
+ghost use Rattle.std.specs.Prelude.{◌≡◌, ◌≢◌, ℕ, Bool, List, AllPairs, length, map, position, IfOk};
 ghost use Rattle.std.specs.Prelude.{false, IsPermutation};
 ghost use Rattle.std.specs.declared.cmp.Ordering.TheVariants.{Greater};
-ghost use Rattle.index_search.specs.Digits.{digits};
 ghost use Rattle.index_entries.specs.Record.{Record};
 ghost use Rattle.index_lookups.specs.Folded.{folded};
 ghost use Rattle.index_lookups.specs.NameSteps.{IsPathTable, IsTableOf, common_cmp, name_answers, name_order};
 ghost use Rattle.index_lookups.specs.NameSteps.{named_cmp, named_from, named_value, path_names};
+ghost use Rattle.index_lookups.specs.Searches.{IsHalving};
 ghost use Rattle.index_lookups.specs.WalkSteps.{AreVisits};
 
 use crate::fold::compare_fronts;
@@ -110,8 +110,7 @@ pub(crate) fn find(
     ensures answer { (test : List ℕ → Record → Bool) (rs : List Record)
         → IsTableOf outer ignore_case test rs (map named_value names.now)
         → result.0 ≡ position (test name.now) rs }
-    ensures count { result.1 ≤ digits (length names.now) + 1 }
-    ensures at_least_one { 0 < length names.now → 1 ≤ result.1 }
+    ensures count { IsHalving (length names.now) result.1 }
 {
     let places = NamedSearch {
         names,

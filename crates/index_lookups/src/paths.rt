@@ -1,8 +1,8 @@
 //! What a closure gives of entries and their paths.
 
-ghost use Rattle.std.specs.Prelude.{◌≡◌, length};
+ghost use Rattle.std.specs.Prelude.{length};
 ghost use Rattle.std.specs.Iterator.{at_most};
-ghost use Rattle.index_lookups.specs.FilterMap.{ArePlaced, StepsTo, closure_of, entries_left, storage_left};
+ghost use Rattle.index_lookups.specs.FilterMap.{IsFilterOf, StepsTo, closure_of, entries_left};
 
 use index_entries::Entry;
 
@@ -22,9 +22,7 @@ pub fn entries_with_paths_by_filter_map<'a, T, F: FnMut(&'a [u8], &'a Entry) -> 
     backing: &'a [u8],
     filter_map: F,
 ) -> FilterMapPaths<'a, F>
-    ensures entries { entries_left result ≡ entries.now }
-    ensures backing { storage_left result ≡ backing.now }
-    ensures closure { closure_of result ≡ filter_map }
+    ensures { IsFilterOf entries.now backing.now filter_map result }
 {
     FilterMapPaths {
         entries,
@@ -36,7 +34,7 @@ pub fn entries_with_paths_by_filter_map<'a, T, F: FnMut(&'a [u8], &'a Entry) -> 
 impl<'a, T, F: FnMut(&'a [u8], &'a Entry) -> Option<T>> Iterator for FilterMapPaths<'a, F> {
     type Item = (&'a [u8], T);
 
-    ghost can_next = { λ s. ArePlaced s × F.IsAlwaysCallable (closure_of s) };
+    ghost can_next = { λ s. F.IsAlwaysCallable (closure_of s) };
 
     ghost next_gives = { λ s r t. StepsTo (λ f p b o g. F.step f p b o g) s r t };
 

@@ -1,16 +1,16 @@
 //! Which entries have a path or begin with a prefix.
 
-ghost use Rattle.std.specs.Prelude.{◌≡◌, ◌+◌, ◌<◌, ◌≤◌, Option, length, take, map, position, IfSome, false, true};
+ghost use Rattle.std.specs.Prelude.{◌≡◌, ◌<◌, ◌≤◌, Option, length, take, map, position, IfSome, false, true};
 ghost use Rattle.std.specs.List.{HoldsAt};
 ghost use Rattle.std.specs.Ordering.{is_eq};
 ghost use Rattle.index_metadata.specs.Flags.{stage_code, stage_number};
-ghost use Rattle.index_search.specs.Digits.{digits};
-ghost use Rattle.index_lookups.specs.Lookup.{IsKeyAt, insertion_of_path, place_of};
+ghost use Rattle.index_lookups.specs.Lookup.{IsKeyAt, place_of};
 ghost use Rattle.index_entries.specs.Order.{IsOrderedByPath, IsStrictlyOrdered};
-ghost use Rattle.index_lookups.specs.Range.{HasStageOf, IsPart, IsPrefixRange, IsRange, LiesWithin, is_at};
+ghost use Rattle.index_lookups.specs.Range.{FindsRange, HasStageOf, IsPrefixRange, LiesWithin, is_at};
 ghost use Rattle.index_lookups.specs.Range.{place_of_path};
 ghost use Rattle.index_search.specs.Halving.{IsPartedAt, IsRising};
 ghost use Rattle.index_lookups.specs.SearchSteps.{asked_cmp};
+ghost use Rattle.index_lookups.specs.Searches.{SearchesPrefix};
 ghost use Rattle.index_lookups.specs.RangeSteps.{IsEnoughUpto, is_wanted, is_wanted_at};
 
 use crate::search::{Asked, Prefix, search, search_path_and_stage};
@@ -22,9 +22,7 @@ use std::ops::Range;
 
 /// The places that are what is looked for, where there are any.
 fn run_of<R: Ordered>(places: &R) -> Option<Range<usize>>
-    ensures in_range { IfSome result (IsPart (R.answers places.now)) }
-    ensures exactly { IsRising (R.answers places.now)
-        → IsRange is_eq (R.answers places.now) result }
+    ensures { FindsRange is_eq (IsRising (R.answers places.now)) (R.answers places.now) result }
 {
     let low = part(places, false).0;
     let high = end_from(places, low);
@@ -36,9 +34,7 @@ fn run_of<R: Ordered>(places: &R) -> Option<Range<usize>>
 /// Over entries whose paths never fall they are all such indices. Over other entries they are indices into the list,
 /// and no more is said.
 pub fn entry_range(entries: &EntrySlice<'_>, path: &[u8]) -> Option<Range<usize>>
-    ensures in_range { IfSome result (IsPart entries.now) }
-    ensures exactly { IsOrderedByPath entries.now
-        → IsRange (is_at path.now) entries.now result }
+    ensures { FindsRange (is_at path.now) (IsOrderedByPath entries.now) entries.now result }
 {
     run_of(&Asked {
         entries,
@@ -53,11 +49,7 @@ pub fn entry_range(entries: &EntrySlice<'_>, path: &[u8]) -> Option<Range<usize>
 ///
 /// The number is promised over entries whose paths never fall. Over other entries it is at most their number.
 pub fn search_prefix(entries: &EntrySlice<'_>, prefix: &[u8]) -> (usize, usize)
-    ensures in_range { result.0 ≤ length entries.now }
-    ensures place { IsOrderedByPath entries.now
-        → result.0 ≡ insertion_of_path prefix.now entries.now }
-    ensures count { result.1 ≤ digits (length entries.now) + 1 }
-    ensures at_least_one { 0 < length entries.now → 1 ≤ result.1 }
+    ensures { SearchesPrefix prefix.now entries.now result }
 {
     let tail = &[];
     part(
@@ -151,7 +143,6 @@ pub(crate) fn first_wanted(
     end: usize,
     wanted: Wanted,
 ) -> Option<usize>
-    requires { end ≤ length entries.now }
     ensures found { IfSome result (λ i. (i < length entries.now)
         × HoldsAt (λ r. is_wanted_at path.now wanted r ≡ true) entries.now i) }
     ensures answer { IsOrderedByPath entries.now
@@ -159,7 +150,7 @@ pub(crate) fn first_wanted(
         → IsEnoughUpto (is_wanted_at path.now wanted) entries.now low end
         → result ≡ position (is_wanted_at path.now wanted) entries.now }
 {
-    for place in low..end {
+    for place in low..end.min(entries.len()) {
         if Entry::cmp_filepaths(entries.path(place), path).is_ne() {
             return None;
         }

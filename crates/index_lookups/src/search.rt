@@ -1,13 +1,9 @@
 //! Searches by path, and by what paths begin with, among entries in order.
 
-ghost use Rattle.std.specs.Prelude.{◌≡◌, ◌<◌, ◌≤◌, ◌+◌, ◌++◌, length, map, IfOk, IfErr, false, ok_or};
-ghost use Rattle.std.specs.List.{HoldsAt};
+ghost use Rattle.std.specs.Prelude.{◌++◌, length, map};
 ghost use Rattle.index_metadata.specs.Flags.{stage_code};
-ghost use Rattle.index_entries.specs.Order.{IsOrderedByPath, IsStrictlyOrdered};
-ghost use Rattle.index_lookups.specs.Lookup.{IsKeyAt, IsPathAt, IsPathGap, insertion_of, place_of};
-ghost use Rattle.index_lookups.specs.SearchSteps.{asked_cmp, prefix_answers};
-ghost use Rattle.index_search.specs.Digits.{digits};
-ghost use Rattle.index_search.specs.Halving.{IsEqualAt, IsGapAt, IsPartedAt, IsSplitBy};
+ghost use Rattle.index_lookups.specs.SearchSteps.{AskedAnswer, asked_cmp, prefix_answers};
+ghost use Rattle.index_lookups.specs.Searches.{IsHalving, SearchesKey, SearchesPath};
 
 use index_entries::Entry;
 use index_entries::slice::EntrySlice;
@@ -27,18 +23,6 @@ pub struct Asked<'a> {
     pub stage: Option<Stage>,
 }
 
-/// Where the entry at a place stands to a path, and to a stage where one is asked. It compares one path.
-fn compare(entries: &EntrySlice<'_>, place: usize, path: &[u8], stage: Option<Stage>) -> Ordering
-    requires { place < length entries.now }
-    ensures { HoldsAt (λ r. asked_cmp path.now stage r ≡ result) entries.now place }
-{
-    let by_path = Entry::cmp_filepaths(entries.path(place), path);
-    match stage {
-        None => by_path,
-        Some(stage) => by_path.then(entries.entry(place).stage_raw().cmp(&(stage as StageRaw))),
-    }
-}
-
 impl Ordered for Asked<'_> {
     ghost answers = { λ s. map (asked_cmp s.path.now s.stage) s.entries.now };
 
@@ -47,7 +31,18 @@ impl Ordered for Asked<'_> {
     }
 
     fn compare(&self, place: usize) -> Ordering {
-        compare(self.entries, place, self.path, self.stage)
+        let by_path = Entry::cmp_filepaths(self.entries.path(place), self.path);
+        match self.stage {
+            None => by_path,
+            Some(stage) => {
+                let by_stage = self
+                    .entries
+                    .entry(place)
+                    .stage_raw()
+                    .cmp(&(stage as StageRaw));
+                by_path.then(by_stage)
+            }
+        }
     }
 }
 
@@ -81,14 +76,7 @@ pub(crate) fn search(
     path: &[u8],
     stage: Option<Stage>,
 ) -> (Result<usize, usize>, usize)
-    ensures found { IfOk result.0 (IsEqualAt (asked_cmp path.now stage) entries.now) }
-    ensures first { IsSplitBy (asked_cmp path.now stage) entries.now
-        → IfOk result.0 (IsPartedAt false (map (asked_cmp path.now stage) entries.now)) }
-    ensures in_range { IfErr result.0 (λ i. i ≤ length entries.now) }
-    ensures absent { IsSplitBy (asked_cmp path.now stage) entries.now
-        → IfErr result.0 (IsGapAt (asked_cmp path.now stage) entries.now) }
-    ensures count { result.1 ≤ digits (length entries.now) + 1 }
-    ensures at_least_one { 0 < length entries.now → 1 ≤ result.1 }
+    ensures { AskedAnswer (IsHalving (length entries.now)) path.now stage entries.now result }
 {
     let places = Asked {
         entries,
@@ -105,12 +93,7 @@ pub(crate) fn search(
 /// It is promised over entries whose paths never fall. Over other entries an index still has that path, and an error is
 /// at most the number of entries and says no more.
 pub fn search_path(entries: &EntrySlice<'_>, path: &[u8]) -> (Result<usize, usize>, usize)
-    ensures found { IfOk result.0 (IsPathAt path.now entries.now) }
-    ensures in_range { IfErr result.0 (λ i. i ≤ length entries.now) }
-    ensures absent { IsOrderedByPath entries.now
-        → IfErr result.0 (IsPathGap path.now entries.now) }
-    ensures count { result.1 ≤ digits (length entries.now) + 1 }
-    ensures at_least_one { 0 < length entries.now → 1 ≤ result.1 }
+    ensures { SearchesPath path.now entries.now result }
 {
     search(entries, path, None)
 }
@@ -126,13 +109,7 @@ pub fn search_path_and_stage(
     path: &[u8],
     stage: Stage,
 ) -> (Result<usize, usize>, usize)
-    ensures found { IfOk result.0 (IsKeyAt path.now (stage_code stage) entries.now) }
-    ensures in_range { IfErr result.0 (λ i. i ≤ length entries.now) }
-    ensures answer { IsStrictlyOrdered entries.now
-        → result.0 ≡ ok_or (place_of path.now (stage_code stage) entries.now)
-        (insertion_of path.now (stage_code stage) entries.now) }
-    ensures count { result.1 ≤ digits (length entries.now) + 1 }
-    ensures at_least_one { 0 < length entries.now → 1 ≤ result.1 }
+    ensures { SearchesKey path.now (stage_code stage) entries.now result }
 {
     search(entries, path, Some(stage))
 }

@@ -127,8 +127,7 @@ fn step<'a>(
 
 /// How many bytes both names begin with, with case ignored where asked.
 fn shared_names(a: &[u8], b: &[u8], ignore_case: bool) -> usize
-    ensures value { result ≡ shared_len (folded ignore_case a.now) (folded ignore_case b.now) }
-    ensures within { result ≤ length b.now }
+    ensures { result ≡ shared_len (folded ignore_case a.now) (folded ignore_case b.now) }
 {
     let mut len = shared_len(a, b);
     if !ignore_case {

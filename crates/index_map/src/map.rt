@@ -1,6 +1,6 @@
 //! The map of a file: a line for each part.
 
-ghost use Rattle.std.specs.Prelude.{◌≡◌, ◌++◌, OnOk, codes, false};
+ghost use Rattle.std.specs.Prelude.{◌≡◌, ◌++◌, OnOk, codes};
 ghost use Rattle.index_text.specs.Blocks.{PutsText};
 ghost use Rattle.index_text.specs.Escaped.{escaped};
 ghost use Rattle.index_map.specs.Lines.{map_line, map_lines, map_path, record_path, what_text};
@@ -118,7 +118,6 @@ pub fn write_map<W: Out>(
     style: Lines,
     out: &mut W,
 ) -> io::Result<()>
-    requires { W.failed out.old ≡ false }
     ensures { PutsText W.Out out.old out.new result
         (map_lines style entries.now.records parts.now) }
 {

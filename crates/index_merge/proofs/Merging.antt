@@ -346,30 +346,32 @@ replace_is_fault delete_words replace_words shared split fault h = record {
   is = rw h.is refl;
 }
 
-module _ (delete_words replace_words : List ℕ) (shared split mid all : List Record) (taken : ℕ)
-    (rep : ReplacesEntries replace_words shared split mid taken) (whole : all ≡ mid ++ drop taken split) where
-  candidates_are : candidates shared split (listed_places rep.items) ≡ all
+module _ (delete_words replace_words : List ℕ) (shared split mid : List Record) (taken : ℕ)
+    (rep : ReplacesEntries replace_words shared split mid taken) where
+  candidates_are : candidates shared split (listed_places rep.items) ≡ mid ++ drop taken split
   candidates_are = ap (λ (l : List Record). l ++ drop (length (listed_places rep.items)) split) (sym rep.replaced)
-      ∙ ap (λ (n : ℕ). mid ++ drop n split) (sym rep.number) ∙ sym whole
+      ∙ ap (λ (n : ℕ). mid ++ drop n split) (sym rep.number)
 
-  pub delete_is_fault : (fault : List ℕ) → IsDeleteFault delete_words (length all) fault
-      → IsMergeFault delete_words replace_words shared split fault
-  delete_is_fault fault h = record {
-    delete = h.items;
-    replace = rep.items;
-    listed = record { of_delete = h.listed; of_replace = rep.listed };
-    is = rw (rep.sound, candidates_are) h.is;
-  }
+  pub delete_is_fault : (n : ℕ) → n ≡ length mid + length (drop taken split) → (fault : List ℕ)
+      → IsDeleteFault delete_words n fault → IsMergeFault delete_words replace_words shared split fault
+  delete_is_fault n count fault h =
+      let many : n ≡ length (mid ++ drop taken split) = count ∙ sym (length-append mid (drop taken split)) in
+      record {
+        delete = h.items;
+        replace = rep.items;
+        listed = record { of_delete = h.listed; of_replace = rep.listed };
+        is = rw (rep.sound, candidates_are, ← many) h.is;
+      }
 
-  pub merged_all : (kept merged : List Record) → Keeps delete_words all kept → IsPermutation kept merged
-      → IsSorted record_cmp merged → IsStable record_cmp kept merged
-      → IsMerge delete_words replace_words shared split merged
-  merged_all kept merged k permutation sorted stable = record {
+  pub merged_all : (all : List Record) → all ≡ mid ++ drop taken split → (kept merged : List Record)
+      → Keeps delete_words all kept → IsPermutation kept merged → IsSorted record_cmp merged
+      → IsStable record_cmp kept merged → IsMerge delete_words replace_words shared split merged
+  merged_all all whole kept merged k permutation sorted stable = record {
     delete = k.items;
     replace = rep.items;
     listed = record { of_delete = k.listed; of_replace = rep.listed };
-    sound = rw (rep.sound, candidates_are) k.sound;
-    permutation = rw (candidates_are, ← k.retained) permutation;
+    sound = rw (rep.sound, candidates_are, ← whole) k.sound;
+    permutation = rw (candidates_are, ← whole, ← k.retained) permutation;
     sorted = sorted;
-    stable = rw (candidates_are, ← k.retained) stable;
+    stable = rw (candidates_are, ← whole, ← k.retained) stable;
   }

@@ -1,7 +1,7 @@
 -- What each step of a merge answers, and what it leaves, over entries and the storages of their paths (the library's
 -- own).
-use Rattle.std.specs.Prelude.{◌≡◌, ◌<◌, ◌≤◌, ◌++◌, [], ◌∷◌, ℕ, List, All, Option, Result, Some, None, length, slice_get}
-use Rattle.std.specs.Prelude.{IfErr, IfOk, OnOk}
+use Rattle.std.specs.Prelude.{◌≡◌, ◌<◌, ◌≤◌, ◌+◌, ◌++◌, [], ◌∷◌, ℕ, List, All, Option, Result, Some, None, length}
+use Rattle.std.specs.Prelude.{slice_get, IfErr, IfOk, OnOk}
 use Rattle.std.specs.Global.{Vec}
 use Rattle.std.specs.Option.{option_map}
 use Rattle.std.specs.declared.alloc.AllocError.{AllocError}
@@ -41,7 +41,7 @@ pub record TakesAt (storage : List ℕ) (old new : Vec Entry) (split_storage : L
   pub replaced : OnOk result (records_in storage new.items
       ≡ changed_at (λ r. replaced r (slice_get (records_in split_storage split) taken)) place
       (records_in storage old.items))
-  pub placed : OnOk result (All (IsPlaced (length storage)) new.items)
+  pub placed : OnOk result (StayPlaced old.items new.items)
   pub fault : IfErr result (λ e. SaysMerge e (λ fault. place_fault (slice_get (records_in storage old.items) place)
       (slice_get (records_in split_storage split) taken) ≡ Some fault))
 
@@ -52,18 +52,20 @@ pub record TakesBy (replace : Ewah) (storage : List ℕ) (old new : Vec Entry) (
   pub replaced : IfOk result (ReplacesEntries (bitmap replace).words (records_in storage old.items)
       (records_in split_storage split) (records_in storage new.items))
   pub few : IfOk result (λ taken. taken ≤ length split)
-  pub placed : OnOk result (All (IsPlaced (length storage)) new.items)
+  pub placed : OnOk result (StayPlaced old.items new.items)
   pub fault : IfErr result (λ e. SaysMerge e (IsReplaceFault (bitmap replace).words (records_in storage old.items)
       (records_in split_storage split)))
 
 -- ---- appending
 
--- These split entries stand behind the others, and their paths behind theirs.
+-- These split entries stand behind the others, and their paths behind theirs, where those lay in their storage.
 pub record Joins (old new : Vec Entry) (storage new_storage : Vec ℕ) (split_storage : List ℕ) (split : List Entry)
     (result : Result (Unit {0}) AllocError) : Type 0 where
-  pub appended : OnOk result (records_in new_storage.items new.items
+  pub count : OnOk result (length new.items ≡ length old.items + length split)
+  pub appended : OnOk result (All (IsPlaced (length storage.items)) old.items → records_in new_storage.items new.items
       ≡ records_in storage.items old.items ++ records_in split_storage split)
-  pub placed : OnOk result (All (IsPlaced (length new_storage.items)) new.items)
+  pub placed : OnOk result (All (IsPlaced (length storage.items)) old.items
+      → All (IsPlaced (length new_storage.items)) new.items)
 
 -- ---- deleting
 
@@ -87,11 +89,14 @@ SaysDelete delete xs e = SaysMerge e (IsDeleteFault (bitmap delete).words (lengt
 
 -- ---- the whole merge
 
--- The entries are those of both, merged by both bitmaps, or this is the first fault; their paths lie in their storage.
+-- The entries are those of both, merged by both bitmaps, and their paths lie in their storage, where the old paths lay
+-- in theirs; or this is the first fault.
 pub record Merges (delete replace : Ewah) (old : Vec Entry) (storage : Vec ℕ) (split : List Entry)
     (split_storage : List ℕ) (new : Vec Entry) (new_storage : Vec ℕ) (result : Result (Unit {0}) Error) : Type 0 where
-  pub merged : OnOk result (IsMerge (bitmap delete).words (bitmap replace).words (records_in storage.items old.items)
-      (records_in split_storage split) (records_in new_storage.items new.items))
-  pub placed : OnOk result (All (IsPlaced (length new_storage.items)) new.items)
+  pub merged : OnOk result (All (IsPlaced (length storage.items)) old.items → IsMerge (bitmap delete).words
+      (bitmap replace).words (records_in storage.items old.items) (records_in split_storage split)
+      (records_in new_storage.items new.items))
+  pub placed : OnOk result (All (IsPlaced (length storage.items)) old.items
+      → All (IsPlaced (length new_storage.items)) new.items)
   pub fault : IfErr result (λ e. SaysMerge e (IsMergeFault (bitmap delete).words (bitmap replace).words
       (records_in storage.items old.items) (records_in split_storage split)))

@@ -1,13 +1,13 @@
 //! Merging the entries of a split index into those of its shared index (gitformat-index, "Split index").
 
-ghost use Rattle.std.specs.Prelude.{◌≡◌, ◌<◌, [], ◌∷◌, ℕ, List, All, Some, None, length, filter, not, IfErr, OnOk};
+ghost use Rattle.std.specs.Prelude.{◌≡◌, ◌<◌, [], ◌∷◌, ℕ, List, Some, None, length, filter, not, IfErr, OnOk};
 ghost use Rattle.index_entries.specs.EntryImage.{is_removed};
 ghost use Rattle.index_merge.specs.declared.merge.Error.TheVariants.{Memory};
 ghost use Rattle.index_merge.specs.Merge.{record_fault};
 ghost use Rattle.index_merge.specs.MergeCalls.{Joins, KeepsOthers, MarksAt, MarksBy, Merges, ReplacesAt};
 ghost use Rattle.index_merge.specs.MergeCalls.{SaysDelete, StayPlaced, TakesAt, TakesBy, TellsReplaceFault};
 ghost use Rattle.index_merge.specs.MergeSteps.{merge_error};
-ghost use Rattle.index_entries.specs.Record.{IsPlaced, record_in, records_in};
+ghost use Rattle.index_entries.specs.Record.{record_in, records_in};
 
 use bitflags::Flags as _;
 use index_bitmaps::ewah;
@@ -68,8 +68,6 @@ fn fault_between(
     by: &Entry,
     split_storage: &[u8],
 ) -> Option<&'static str>
-    requires placed { IsPlaced (length storage.now) entry.now }
-    requires by_placed { IsPlaced (length split_storage.now) by.now }
     ensures { TellsReplaceFault result storage.now entry.now split_storage.now by.now }
 {
     if entry.is_removed() {
@@ -106,8 +104,6 @@ fn replace_at(
     taken: usize,
     place: u64,
 ) -> Result<(), Error>
-    requires placed { All (IsPlaced (length storage.now)) shared.old.items }
-    requires split_placed { All (IsPlaced (length split_storage.now)) split.now }
     ensures { TakesAt storage.now shared.old shared.new split_storage.now split.now taken place
         result }
 {
@@ -136,8 +132,6 @@ fn replace_entries(
     split_storage: &[u8],
     replace: &ewah::Vec,
 ) -> Result<usize, Error>
-    requires placed { All (IsPlaced (length storage.now)) shared.old.items }
-    requires split_placed { All (IsPlaced (length split_storage.now)) split.now }
     ensures { TakesBy replace.now storage.now shared.old shared.new split_storage.now split.now
         result }
 {
@@ -160,8 +154,6 @@ fn append_entry(
     entry: &Entry,
     split_storage: &[u8],
 ) -> Result<(), AllocError>
-    requires placed { All (IsPlaced (length storage.old.items)) entries.old.items }
-    requires entry_placed { IsPlaced (length split_storage.now) entry.now }
     ensures { Joins entries.old entries.new storage.old storage.new split_storage.now
         (entry.now ∷ []) result }
 {
@@ -183,8 +175,6 @@ fn append_entries(
     split: &[Entry],
     split_storage: &[u8],
 ) -> Result<(), AllocError>
-    requires placed { All (IsPlaced (length storage.old.items)) entries.old.items }
-    requires split_placed { All (IsPlaced (length split_storage.now)) split.now }
     ensures { Joins entries.old entries.new storage.old storage.new split_storage.now split.now
         result }
 {
@@ -233,10 +223,9 @@ fn drop_removed(entries: &mut Vec<Entry>)
 
 /// Drops the entries at the places of the bitmap, and those that are marked `REMOVE`.
 fn keep_others(entries: &mut Vec<Entry>, storage: &[u8], delete: &ewah::Vec) -> Result<(), Error>
-    requires { All (IsPlaced (length storage.now)) entries.old.items }
     ensures retained { OnOk result
         (KeepsOthers delete.now storage.now entries.old entries.new) }
-    ensures placed { OnOk result (All (IsPlaced (length storage.now)) entries.new.items) }
+    ensures placed { OnOk result (StayPlaced entries.old.items entries.new.items) }
     ensures fault { IfErr result
         (SaysDelete delete.now (records_in storage.now entries.old.items)) }
 {
@@ -264,8 +253,6 @@ pub fn merge(
     delete: &ewah::Vec,
     replace: &ewah::Vec,
 ) -> Result<(), Error>
-    requires placed { All (IsPlaced (length storage.old.items)) entries.old.items }
-    requires split_placed { All (IsPlaced (length split_storage.now)) split.now }
     ensures { Merges delete.now replace.now entries.old storage.old split.now split_storage.now
         entries.new storage.new result }
 {

@@ -24,16 +24,17 @@ pub record IsSpellableDirty (b : Bitmap) : Type 0 where
   pub spellable : IsSpellableBitmap b
   pub size : length (bitmap_bytes b) < 2 ^ 32
 
--- over records in strict order, the bits of those that pass the test are set beside those that were
+-- where there is a bit of each record, and the records are in strict order, the bits of those that pass the test are set
+-- beside those that were
 pub record SetsBits (test : Record → Bool) (rs : List Record) (old now : List Bool) : Type 0 where
   pub len : length now ≡ length old
-  pub marked : IsStrictlyOrdered rs → now ≡ either old (map test rs)
+  pub marked : length old ≡ length rs → IsStrictlyOrdered rs → now ≡ either old (map test rs)
 
 -- the same, where the test asks for places, and each of these is one of so many
 pub record SetsBitsWithin (test : List (Result ℕ Malformed) → Record → Bool) (most : ℕ) (places : Bitmap)
     (rs : List Record) (old now : List Bool) : Type 0 where
   pub len : length now ≡ length old
-  pub marked : IsStrictlyOrdered rs → are_below most (set_places places) ≡ true
+  pub marked : length old ≡ length rs → IsStrictlyOrdered rs → are_below most (set_places places) ≡ true
       → now ≡ either old (map (test (set_places places)) rs)
 
 -- the bits of the records are set that stood at one of the places

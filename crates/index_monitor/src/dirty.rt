@@ -1,6 +1,6 @@
 //! The places of entries which may have changed since a monitor was asked, after changes of an index.
 
-ghost use Rattle.std.specs.Prelude.{◌≡◌, IfOk, IfSome, length};
+ghost use Rattle.std.specs.Prelude.{IfOk, IfSome};
 ghost use Rattle.index_bitmaps.specs.Bitmap.{bitmap};
 ghost use Rattle.index_lookups.specs.Lookup.{has_key};
 ghost use Rattle.index_metadata.specs.Flags.{stage_code};
@@ -21,19 +21,19 @@ use std::alloc::{AllocError, Global};
 /// More entries have no places of 32 bits.
 const MOST_ENTRIES: usize = u32::MAX as usize;
 
-/// Sets the bit of the entry with a path and a stage, where there is one.
+/// Sets the bit of the entry with a path and a stage, where there is one. Bits of fewer entries are left out.
 fn set_bit(bits: &mut [bool], entries: &EntrySlice<'_>, path: &[u8], stage: Stage)
-    requires { length bits.old ≡ length entries.now }
     ensures { SetsBits (has_key path.now (stage_code stage)) entries.now bits.old bits.new }
 {
     if let Some(place) = entry_index_by_path_and_stage(entries, path, stage) {
-        bits[place] = true;
+        if place < bits.len() {
+            bits[place] = true;
+        }
     }
 }
 
 /// Sets the bit of the entry that a change stages.
 fn mark_change(bits: &mut [bool], entries: &EntrySlice<'_>, change: &Change<'_>)
-    requires { length bits.old ≡ length entries.now }
     ensures { SetsBits (is_replaced change.now) entries.now bits.old bits.new }
 {
     if let Change::Stage { entry, path } = change {
@@ -43,7 +43,6 @@ fn mark_change(bits: &mut [bool], entries: &EntrySlice<'_>, change: &Change<'_>)
 
 /// Sets the bits of the entries that changes stage.
 fn mark_changes(bits: &mut [bool], entries: &EntrySlice<'_>, changes: &[Change<'_>])
-    requires { length bits.old ≡ length entries.now }
     ensures { SetsBits (is_staged changes.now) entries.now bits.old bits.new }
 {
     for change in changes {
@@ -58,7 +57,6 @@ fn mark_places(
     old: &EntrySlice<'_>,
     places: &ewah::Vec,
 )
-    requires { length bits.old ≡ length entries.now }
     ensures { MarksPlaces old.now (bitmap places.now) entries.now bits.old bits.new }
 {
     let mut positions = places.positions();
@@ -82,7 +80,6 @@ fn mark_dirty(
     places: &ewah::Vec,
     changes: &[Change<'_>],
 )
-    requires { length bits.old ≡ length entries.now }
     ensures { MarksDirty changes.now old.now (bitmap places.now) entries.now bits.old bits.new }
 {
     mark_places(bits, entries, old, places);

@@ -145,21 +145,15 @@ pub fn number_of_table(fault: TableFault) -> Numbered
     Numbered { number, place }
 }
 
-/// Writes the front of a text, as far as there is room, and says how many bytes that is.
-fn put_text(text: &[u8], room: &mut [u8]) -> usize
-    ensures { HasText result room.old room.new }
-{
-    let len = text.len().min(room.len());
-    room[..len].copy_from_slice(&text[..len]);
-    len
-}
-
-/// Writes what a fault says. Where memory doesn't suffice for that, it is nothing.
+/// Writes the front of what a fault says, as far as there is room, and says how many bytes that is. Where memory doesn't
+/// suffice for it, it is nothing.
 pub fn put_fault<E: fmt::Display>(alloc: Global, e: &E, room: &mut [u8]) -> usize
     ensures { HasText result room.old room.new }
 {
-    match format!(in alloc; "{e}") {
-        Ok(text) => put_text(text.as_bytes(), room),
-        Err(_) => 0,
-    }
+    let Ok(text) = format!(in alloc; "{e}") else {
+        return 0;
+    };
+    let len = text.len().min(room.len());
+    room[..len].copy_from_slice(&text.as_bytes()[..len]);
+    len
 }

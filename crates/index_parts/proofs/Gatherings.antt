@@ -12,10 +12,9 @@ use Rattle.index_parts.proofs.Puts.{puts_stopped_after, puts_then}
 use Rattle.index_parts.proofs.Taking.{Took-nil, Took-trans}
 
 -- a writer that was given nothing yet, and all that is held
-pub gathers_held : {S : Type 0} (w : Ghosts S) (a : S) (xs ys : List ℕ) → w.failed a ≡ false → ys ≡ xs
-    → Gathers w a a xs ys
-gathers_held w a xs ys unfailed e =
-    record { gone = []; took = Took-nil w.taken w.hashed a; parts = e; failed = unfailed; loan = refl }
+pub gathers_held : {S : Type 0} (w : Ghosts S) (a : S) (xs ys : List ℕ) → ys ≡ xs → Gathers w a a xs ys
+gathers_held w a xs ys e =
+    record { gone = []; took = Took-nil w.taken w.hashed a; parts = e; failed = λ f. f; loan = refl }
 
 -- all went out, and nothing is held
 pub gathers_none : {S T E : Type 0} {w : Ghosts S} {a b : S} {xs : List ℕ} (r : Result T E) (held : List ℕ) → held ≡ []
@@ -46,7 +45,7 @@ gathers_more {held = held} {xs = xs} {next = next} ys e p q = record {
   took = Took-trans p.took q.took;
   parts = sym e ∙ ap (λ (l : List ℕ). l ++ ys) p.parts ∙ append_assoc p.gone held ys
       ∙ ap (λ (l : List ℕ). p.gone ++ l) q.parts ∙ sym (append_assoc p.gone q.gone next);
-  failed = q.failed;
+  failed = λ f. q.failed (p.failed f);
   loan = q.loan ∙ p.loan;
 }
 
@@ -54,7 +53,7 @@ gathers_more {held = held} {xs = xs} {next = next} ys e p q = record {
 pub puts_held : {S T E : Type 0} {w : Ghosts S} {a b c : S} {held xs : List ℕ} (r : Result T E) → Gathers w a b held xs
     → Puts w b c r held → Puts w a c r xs
 puts_held {w = w} {a = a} {c = c} r p q =
-    subst (λ (l : List ℕ). Puts w a c r l) (sym p.parts) (puts_then r p.took p.loan q)
+    subst (λ (l : List ℕ). Puts w a c r l) (sym p.parts) (puts_then r p.took p.failed p.loan q)
 
 -- at the exit of a `?`: of what was held and more a prefix went out
 pub puts_stopped_held : {S T E U F : Type 0} {w : Ghosts S} {a b c : S} {e : F} (r : Result T E) {held xs all : List ℕ}
@@ -64,4 +63,4 @@ puts_stopped_held r {held = held} ys rest h whole p q =
     let parts : (p.gone ++ (held ++ ys)) ++ rest ≡ _ =
     ap (λ (l : List ℕ). l ++ rest) (sym (append_assoc p.gone held ys) ∙ ap (λ (l : List ℕ). l ++ ys) (sym p.parts))
     ∙ whole in
-    puts_stopped_after r rest h parts p.took p.loan q
+    puts_stopped_after r rest h parts p.took p.failed p.loan q

@@ -56,7 +56,6 @@ pub fn var_int(data: &[u8]) -> Option<(u64, &[u8])>
 ///
 /// An error comes only where the writer failed, which then took a prefix of the bytes. No memory is taken.
 pub fn write_var_int<W: Out>(out: &mut W, n: u64) -> io::Result<()>
-    requires { W.failed out.old ≡ false }
     ensures put { Puts W.Out out.old out.new result (offset_bytes n) }
     ensures spelled { IsOffset (offset_bytes n) n }
 {

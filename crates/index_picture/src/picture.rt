@@ -1,6 +1,6 @@
 //! The whole picture.
 
-ghost use Rattle.std.specs.Prelude.{◌≡◌, ◌++◌, ◌≤◌, OnOk, false, length};
+ghost use Rattle.std.specs.Prelude.{◌≡◌, ◌++◌, ◌≤◌, OnOk, length};
 ghost use Rattle.std.specs.List.{flat_map};
 ghost use Rattle.index_text.specs.Blocks.{PutsText};
 ghost use Rattle.index_picture.specs.Picture.{bar_end, box, box_shape, box_title, drawing, front_text, title_text, height, list_begin, middle_text, picture_text, row, row_begin, row_rest, svg_begin, svg_end, totals};
@@ -33,7 +33,6 @@ fn height(rows: usize) -> u128
 /// Appends the shape of a box.
 #[tactic(auto, unfolding(crate::specs::Picture::box_shape))]
 fn append_shape(lines: &mut Vec<u8>, len: u128, part: Part) -> Result<(), AllocError>
-    requires { len ≤ 0x1fffffffffffffffe }
     ensures { OnOk result (lines.new.items ≡ lines.old.items ++ box_shape len part) }
 {
     append_number(lines, b"<rect x=\"", box_begin(len, part))?;
@@ -71,7 +70,6 @@ fn append_box(
     len: u128,
     part: Part,
 ) -> Result<(), AllocError>
-    requires { len ≤ 0x1fffffffffffffffe }
     ensures { OnOk result
         (lines.new.items ≡ lines.old.items ++ box each entries.now len part) }
 {
@@ -263,8 +261,6 @@ fn write_boxes<W: Out>(
     boxes: &[Part],
     out: &mut W,
 ) -> io::Result<()>
-    requires len { len ≤ 0x1fffffffffffffffe }
-    requires unfailed { W.failed out.old ≡ false }
     ensures { PutsText W.Out out.old out.new result
         (flat_map (box each entries.now len) boxes.now) }
 {
@@ -284,7 +280,6 @@ fn write_rows<W: Out>(
     boxes: &[Part],
     out: &mut W,
 ) -> io::Result<()>
-    requires { W.failed out.old ≡ false }
     ensures { PutsText W.Out out.old out.new result (flat_map (row each entries.now) boxes.now) }
 {
     let mut lines = Vec::new(alloc);
@@ -303,7 +298,6 @@ fn write_front<W: Out>(
     boxes: &[Part],
     out: &mut W,
 ) -> io::Result<()>
-    requires { W.failed out.old ≡ false }
     ensures { PutsText W.Out out.old out.new result (front_text entries.now parts.now boxes.now) }
 {
     let mut lines = Vec::new(alloc);
@@ -313,7 +307,6 @@ fn write_front<W: Out>(
 
 /// Writes what stands between the boxes and the rows.
 fn write_middle<W: Out>(alloc: Global, each: bool, parts: &[Part], out: &mut W) -> io::Result<()>
-    requires { W.failed out.old ≡ false }
     ensures { PutsText W.Out out.old out.new result (middle_text each parts.now) }
 {
     let mut lines = Vec::new(alloc);
@@ -330,7 +323,6 @@ fn write_drawing<W: Out>(
     boxes: &[Part],
     out: &mut W,
 ) -> io::Result<()>
-    requires { W.failed out.old ≡ false }
     ensures { PutsText W.Out out.old out.new result (drawing each entries.now parts.now boxes.now) }
 {
     write_front(alloc, entries, parts, boxes, out)?;
@@ -353,7 +345,6 @@ pub fn write_svg<W: Out>(
     parts: &[Part],
     out: &mut W,
 ) -> io::Result<()>
-    requires { W.failed out.old ≡ false }
     ensures { PutsText W.Out out.old out.new result (picture_text entries.now.records parts.now) }
 {
     let entries = entries.as_slice();

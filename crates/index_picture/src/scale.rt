@@ -18,8 +18,7 @@ fn part_end(part: Part) -> u128
 
 /// Where the last part ends, or 0 where there is none.
 pub fn drawn_len(parts: &[Part]) -> u128
-    ensures value { result ≡ drawn_len parts.now }
-    ensures short { result ≤ 0x1fffffffffffffffe }
+    ensures { result ≡ drawn_len parts.now }
 {
     match parts.last() {
         Some(part) => part_end(*part),
@@ -37,7 +36,7 @@ fn within(len: u128, offset: u128) -> u128
 /// Where an offset stands in a bar for so many bytes.
 #[tactic(auto, unfolding(crate::specs::Scale::scaled))]
 fn scaled(len: u128, offset: u128) -> u128
-    requires { len ≤ 0x1fffffffffffffffe }
+    requires { offset ≤ 0x1fffffffffffffffe }
     ensures value { result ≡ scaled len offset }
     ensures inside { result ≤ bar_width }
 {
@@ -49,7 +48,6 @@ fn scaled(len: u128, offset: u128) -> u128
 
 /// Where the box of a part begins.
 pub fn box_begin(len: u128, part: Part) -> u128
-    requires { len ≤ 0x1fffffffffffffffe }
     ensures { result ≡ box_begin len part }
 {
     scaled(len, part.offset as u128)
@@ -57,7 +55,6 @@ pub fn box_begin(len: u128, part: Part) -> u128
 
 /// How wide it is.
 pub fn box_width(len: u128, part: Part) -> u128
-    requires { len ≤ 0x1fffffffffffffffe }
     ensures { result ≡ box_width len part }
 {
     scaled(len, part_end(part)) - box_begin(len, part)

@@ -4,7 +4,8 @@ use Rattle.std.specs.Prelude.{if◌then◌else◌}
 use Rattle.std.specs.List.{flat_map}
 use Rattle.hex.specs.Hex.{encode_lower}
 use Rattle.index_bitmaps.specs.declared.ranges.Range.{Range}
-use Rattle.index_events.specs.Event.{Datum, a_block, a_number, a_side, an_answer, an_id, no_value}
+use Rattle.index_events.specs.declared.event.Datum.{Datum}
+use Rattle.index_events.specs.declared.event.Datum.TheVariants.{Answer, Block, Count, Id, Malformed, Number, Side}
 use Rattle.index_parts.specs.Id.{id_bytes}
 use Rattle.index_parts.specs.declared.hash.ObjectId.{ObjectId}
 use Rattle.index_small_extensions.specs.declared.index_entry_offset_table.Offset.{Offset}
@@ -42,15 +43,16 @@ block_text block =
 
 -- what a field says
 abbrev pub datum_text : Datum → List ℕ
-datum_text (a_number n) = decimal n
-datum_text (an_id None) = codes "none"
-datum_text (an_id (Some id)) = encode_lower (id_bytes id)
-datum_text (an_answer true) = codes "yes"
-datum_text (an_answer false) = codes "no"
-datum_text (a_side None) = codes "none"
-datum_text (a_side (Some side)) = side_text side
-datum_text (a_block block) = block_text block
-datum_text (no_value word) = word
+datum_text (Number n) = decimal n
+datum_text (Id (Some id)) = encode_lower (id_bytes id)
+datum_text (Answer true) = codes "yes"
+datum_text (Answer false) = codes "no"
+datum_text (Side (Some side)) = side_text side
+datum_text (Block block) = block_text block
+datum_text (Count (Some n)) = decimal n
+datum_text (Count None) = codes "-1"
+datum_text Malformed = codes "malformed"
+datum_text d = codes "none"
 
 -- nanoseconds in nine digits, or more where a file has more
 abbrev pub nanoseconds : ℕ → List ℕ

@@ -1,11 +1,10 @@
 //! Lines of a name and a value.
 
 ghost use Rattle.std.specs.Prelude.{◌++◌, codes};
-ghost use Rattle.index_events.specs.Event.{Adds, datum_of};
+ghost use Rattle.index_events.specs.Event.{Adds};
 ghost use Rattle.index_show.specs.Fields.{block_text, datum_text, field, heading_line, side_text, text_line};
-ghost use Rattle.index_text.specs.Digits.{octal};
 
-use index_events::event::Datum::{self, Answer, Block, Empty, Id, Number, Side};
+use index_events::event::Datum::{self, Absent, Answer, Block, Count, Id, Malformed, Number, Side};
 use index_small_extensions::index_entry_offset_table::Offset;
 use index_small_extensions::resolve_undo::Stage;
 use index_text::append::{Appended, append_decimal, append_hex};
@@ -41,21 +40,14 @@ pub fn append_text(lines: &mut Vec<u8>, indent: &[u8], name: &[u8], bytes: &[u8]
     lines.extend_from_slice(b"\n")
 }
 
-/// Appends a number in octal digits: six where they hold it.
-fn append_octal(lines: &mut Vec<u8>, n: u32) -> Appended
-    ensures { Adds result lines.old lines.new (octal n) }
-{
-    let mut room = [0; 11];
-    let start = prepend_octal(&mut room, 11, n);
-    lines.extend_from_slice(&room[start..])
-}
-
 /// Appends the mode and the id of a side.
 #[tactic(auto, unfolding(crate::specs::Fields::side_text))]
 fn append_side(lines: &mut Vec<u8>, side: Stage) -> Appended
     ensures { Adds result lines.old lines.new (side_text side) }
 {
-    append_octal(lines, side.mode())?;
+    let mut room = [0; 11];
+    let start = prepend_octal(&mut room, 11, side.mode());
+    lines.extend_from_slice(&room[start..])?;
     lines.extend_from_slice(b" ")?;
     append_hex(lines, &side.id())
 }
@@ -72,27 +64,27 @@ fn append_block(lines: &mut Vec<u8>, block: Offset) -> Appended
 }
 
 /// Appends what a field says.
-fn append_value(lines: &mut Vec<u8>, datum: Datum<'_>) -> Appended
-    ensures { Adds result lines.old lines.new (datum_text (datum_of datum.entry)) }
+fn append_value(lines: &mut Vec<u8>, datum: Datum) -> Appended
+    ensures { Adds result lines.old lines.new (datum_text datum) }
 {
     match datum {
         Number(n) => append_decimal(lines, n),
         Id(Some(id)) => append_hex(lines, &id),
-        Id(None) => lines.extend_from_slice(b"none"),
         Answer(true) => lines.extend_from_slice(b"yes"),
         Answer(false) => lines.extend_from_slice(b"no"),
         Side(Some(side)) => append_side(lines, side),
-        Side(None) => lines.extend_from_slice(b"none"),
         Block(block) => append_block(lines, block),
-        Empty(word) => lines.extend_from_slice(word),
+        Count(Some(n)) => append_decimal(lines, u64::from(n)),
+        Count(None) => lines.extend_from_slice(b"-1"),
+        Malformed => lines.extend_from_slice(b"malformed"),
+        Id(None) | Side(None) | Absent => lines.extend_from_slice(b"none"),
     }
 }
 
 /// Appends the line of a field.
 #[tactic(auto, unfolding(crate::specs::Fields::field))]
-pub fn append_datum(lines: &mut Vec<u8>, indent: &[u8], name: &[u8], datum: Datum<'_>) -> Appended
-    ensures { Adds result lines.old lines.new
-        (field indent.now name.now (datum_text (datum_of datum.entry))) }
+pub fn append_datum(lines: &mut Vec<u8>, indent: &[u8], name: &[u8], datum: Datum) -> Appended
+    ensures { Adds result lines.old lines.new (field indent.now name.now (datum_text datum)) }
 {
     append_name(lines, indent, name)?;
     append_value(lines, datum)?;

@@ -1,8 +1,6 @@
 //! Lines of ranges.
 
-ghost use Rattle.std.specs.Prelude.{};
 ghost use Rattle.index_events.specs.Event.{Adds};
-ghost use Rattle.std.specs.List.{flat_map};
 ghost use Rattle.index_show.specs.Fields.{range_text, ranges_line};
 
 use index_bitmaps::ranges::Range;
@@ -22,16 +20,6 @@ fn append_range(lines: &mut Vec<u8>, range: Range) -> Appended
     append_decimal(lines, range.end.saturating_sub(1))
 }
 
-/// Appends ranges.
-fn append_each(lines: &mut Vec<u8>, ranges: &[Range]) -> Appended
-    ensures { Adds result lines.old lines.new (flat_map range_text ranges.now) }
-{
-    for range in ranges {
-        append_range(lines, *range)?;
-    }
-    Ok(())
-}
-
 /// Appends a line with ranges.
 #[tactic(auto, unfolding(crate::specs::Fields::ranges_line))]
 pub fn append_ranges(lines: &mut Vec<u8>, indent: &[u8], name: &[u8], ranges: &[Range]) -> Appended
@@ -43,6 +31,8 @@ pub fn append_ranges(lines: &mut Vec<u8>, indent: &[u8], name: &[u8], ranges: &[
     if ranges.is_empty() {
         return lines.extend_from_slice(b" none\n");
     }
-    append_each(lines, ranges)?;
+    for range in ranges {
+        append_range(lines, *range)?;
+    }
     lines.extend_from_slice(b"\n")
 }

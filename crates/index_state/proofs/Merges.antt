@@ -1,5 +1,5 @@
 -- What is kept where a shared index is merged into a split one.
-use Rattle.std.proofs.Common.{◌≡◌, ℕ, ◌≤◌, List, length, All, Some, None, refl, sym, ap, subst}
+use Rattle.std.proofs.Common.{◌≡◌, ℕ, ◌≤◌, List, length, All, Option, Some, None, refl, sym, ap, subst}
 use Rattle.std.specs.Prelude.{◌≢◌, IfSome}
 use Rattle.index_parts.specs.Id.{id_kind}
 use Rattle.index_parts.specs.declared.hash.Kind.{Kind}
@@ -12,7 +12,7 @@ use Rattle.index_merge.specs.MergeSteps.{SaysMerge, merge_error}
 use Rattle.index_entries.specs.Record.{Record, IsSized, IdsAreOf, records_in}
 use Rattle.index_merge.proofs.Merged.{all_merged}
 use Rattle.index_split.specs.Link.{BitmapPair, LinkValue}
-use Rattle.index_state.specs.Dissolve.{IsMerged, broken, SaysDissolve}
+use Rattle.index_state.specs.Dissolve.{IsDissolved, IsMerged, MergesBy, broken, SaysDissolve}
 use Rattle.index_format.proofs.Ids.{entries_have, records_of}
 use Rattle.index_extension_writing.specs.ResolveUndoImage.{AreSpellablePaths}
 use Rattle.index_format.specs.Contents.{Contents}
@@ -66,6 +66,14 @@ merged_ids kind delete_words replace_words storage split_storage new_storage sha
     entries_have kind new_storage new (all_merged (λ r. id_kind r.id ≡ kind) (λ r s p q. q)
     (records_in split_storage split) (records_of kind split_storage split mine) delete_words replace_words
     (records_in storage shared) (records_in new_storage new) (records_of kind storage shared theirs) m)
+
+-- by a link with bitmaps
+pub dissolved_by : (l : LinkValue) (b : BitmapPair) (shared old new : Contents) → shared.extensions.link ≡ None
+    → l.bitmaps ≡ Some b → IsMerged b shared old new → IsDissolved l shared old new
+dissolved_by l b shared old new none some m = record {
+  alone = none;
+  merged = subst (λ (o : Option BitmapPair). MergesBy o shared old new) (sym some) m;
+}
 
 -- a fault of the entries is one of the link
 pub says_dissolve : (e : MergeError) (l : LinkValue) (b : BitmapPair) (shared split : Contents)

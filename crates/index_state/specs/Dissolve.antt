@@ -38,16 +38,17 @@ pub data IsDissolveFault (l : LinkValue) (shared split : Contents) (fault : Link
 abbrev pub SaysDissolve : Error → LinkValue → Contents → Contents → Type 0
 SaysDissolve e l shared split = IfSome (link_fault e) (IsDissolveFault l shared split)
 
--- what becomes of a split index by a link and the shared index: an Ok merged both, an error says the first fault and
--- changed nothing
+-- What becomes of a split index by a link and the shared index: an Ok merged both, an error says the first fault and
+-- changed nothing. The split index's paths are put behind those of the shared one, which stay where each lies in its
+-- storage.
 pub record Dissolves (l : LinkValue) (shared old new : State) (r : Result (Unit {0}) Error) : Type 0 where
-  pub dissolved : OnOk r (IsDissolved l (contents shared) (contents old) (contents new))
+  pub dissolved : OnOk r (PathsInStorage shared → IsDissolved l (contents shared) (contents old) (contents new))
   pub without_bitmaps : l.bitmaps ≡ None → IsUnchanged old new
   pub no_memory : l.bitmaps ≡ None → (contents shared).extensions.link ≡ None → IsOk r
-  pub placed : PathsInStorage new
-  pub ids : (kind : Kind) → IdsAreOf kind (entries_of old) → IdsAreOf kind (entries_of shared)
+  pub placed : PathsInStorage old → PathsInStorage shared → PathsInStorage new
+  pub ids : PathsInStorage shared → (kind : Kind) → IdsAreOf kind (entries_of old) → IdsAreOf kind (entries_of shared)
       → IdsAreOf kind (entries_of new)
-  pub storable : IsStorable (contents old) → IsStorable (contents shared) → (contents shared).kind ≡ (contents old).kind
-      → IsStorable (contents new)
+  pub storable : PathsInStorage shared → IsStorable (contents old) → IsStorable (contents shared)
+      → (contents shared).kind ≡ (contents old).kind → IsStorable (contents new)
   pub fault : IfErr r (λ e. SaysDissolve e l (contents shared) (contents old))
   pub unchanged : OnErr r (IsUnchanged old new)

@@ -104,7 +104,7 @@ pub record Smudges (time : FileTime) (old new : State) : Type 0 where
 -- The entries are put in order by path, then by stage, and those that agree in both keep theirs. Where they didn't
 -- strictly increase, the extensions aren't known to fit them then; all else stays.
 pub record Sorts {E : Type 0} (old new : State) (r : Result (Unit {0}) E) : Type 0 where
-  pub placed : PathsInStorage new
+  pub placed : PathsInStorage old → PathsInStorage new
   pub permutation : IsPermutation (records old) (records new)
   pub ordered : OnOk r (IsOrdered (records new))
   pub stable : IsStable record_cmp (records old) (records new)
@@ -120,7 +120,7 @@ pub record Sorts {E : Type 0} (old new : State) (r : Result (Unit {0}) E) : Type
 -- the same, but that those which agree in both come in the order of a closure; the extensions aren't known to fit them
 pub record SortsBy {E F : Type 0} (g : Mut F (Bor Entry × (Bor Entry × Unit {0})) Ordering) (compare : F)
     (old new : State) (r : Result (Unit {0}) E) : Type 0 where
-  pub placed : PathsInStorage new
+  pub placed : PathsInStorage old → PathsInStorage new
   pub permutation : IsPermutation (records old) (records new)
   pub ordered : OnOk r (IsOrdered (records new))
   pub ties : OnOk r (TiesFollow g compare (storage_of old) (entries_of old) (entries_of new))

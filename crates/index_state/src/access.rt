@@ -10,16 +10,15 @@ mod storable;
 mod storage;
 
 ghost use Rattle.std.specs.Borrow.{sem};
-ghost use Rattle.std.specs.Prelude.{◌≡◌, ◌<◌, ◌≤◌, length, IfOk};
-ghost use Rattle.std.specs.Prelude.{IfErr, IfSome, option_copied};
+ghost use Rattle.std.specs.Prelude.{◌≡◌, IfSome, option_copied};
 ghost use Rattle.index_metadata.specs.Flags.{stage_code};
 ghost use Rattle.index_state.specs.Edits.{LendsEntries};
-ghost use Rattle.index_lookups.specs.Lookup.{HasKey, IsKeyAt, IsPathAt, IsPathGap, place_of};
-ghost use Rattle.index_entries.specs.Order.{IsOrderedByPath};
-ghost use Rattle.index_state.specs.State.{PathsInStorage, entries_of, records};
+ghost use Rattle.index_lookups.specs.Lookup.{HasKey, IsKeyAt, place_of};
+ghost use Rattle.index_lookups.specs.Searches.{FindsPath, SearchesKey, SearchesPath};
+ghost use Rattle.index_state.specs.State.{entries_of, records};
 ghost use Rattle.index_state.specs.Edits.{record_of};
 ghost use Rattle.index_state.specs.StateEdits.{Pushes};
-ghost use Rattle.index_state.specs.StateSearches.{FindsEntry, FindsPlace, IsEntryWith, SearchesKey, SearchesPath};
+ghost use Rattle.index_state.specs.StateSearches.{FindsEntry, FindsPlace, IsEntryWith};
 
 use crate::State;
 use index_entries::list::append;
@@ -35,7 +34,6 @@ impl State {
     /// Over entries that strictly increase by path, then stage, it is the one place, and None says that there is none.
     /// Over other entries a place still has that path and stage, and None says nothing.
     pub fn entry_index_by_path_and_stage(&self, path: &[u8], stage: Stage) -> Option<usize>
-        requires { PathsInStorage self.now }
         ensures found { IfSome result (IsKeyAt path.now (stage_code stage) (records self.now)) }
         ensures answer { FindsPlace path.now (stage_code stage) (records self.now) result }
     {
@@ -45,7 +43,6 @@ impl State {
     /// The entry at the path and the stage, or None, as
     /// [`entry_index_by_path_and_stage`](State::entry_index_by_path_and_stage) finds its place.
     pub fn entry_by_path_and_stage(&self, path: &[u8], stage: Stage) -> Option<&Entry>
-        requires { PathsInStorage self.now }
         ensures found { IfSome result
             (λ e. IsEntryWith (HasKey path.now (stage_code stage)) self.now e.now) }
         ensures answer { FindsEntry (place_of path.now (stage_code stage)) self.now
@@ -61,11 +58,7 @@ impl State {
     /// It is promised over entries whose paths never fall. Over other entries a place still has that path, and an error
     /// is at most the number of entries and says no more.
     pub fn entry_index_by_path(&self, path: &[u8]) -> Result<usize, usize>
-        requires { PathsInStorage self.now }
-        ensures found { IfOk result (IsPathAt path.now (records self.now)) }
-        ensures in_range { IfErr result (λ i. i ≤ length (records self.now)) }
-        ensures absent { IsOrderedByPath (records self.now)
-            → IfErr result (IsPathGap path.now (records self.now)) }
+        ensures { FindsPath path.now (records self.now) result }
     {
         self.search_path(path).0
     }
@@ -74,7 +67,6 @@ impl State {
     /// that of an entry: over n entries, in any order, at most one more than n has binary digits, and at least once
     /// where there are entries.
     pub fn search_path(&self, path: &[u8]) -> (Result<usize, usize>, usize)
-        requires { PathsInStorage self.now }
         ensures { SearchesPath path.now (records self.now) result }
     {
         search::search_path(&self.slice(), path)
@@ -87,7 +79,6 @@ impl State {
     /// It is promised over entries that strictly increase by path, then stage. Over other entries a place still has
     /// that path and stage, and an error is at most the number of entries and says no more.
     pub fn search_path_and_stage(&self, path: &[u8], stage: Stage) -> (Result<usize, usize>, usize)
-        requires { PathsInStorage self.now }
         ensures { SearchesKey path.now (stage_code stage) (records self.now) result }
     {
         search::search_path_and_stage(&self.slice(), path, stage)

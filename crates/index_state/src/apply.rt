@@ -1,6 +1,5 @@
 //! Making changes of an index, all or none.
 
-ghost use Rattle.index_state.specs.State.{PathsInStorage};
 ghost use Rattle.index_state.specs.StateChanges.{Applies};
 
 use crate::State;
@@ -21,8 +20,9 @@ impl State {
     /// the state, and one of any version, as no path has a NUL, so it is afterwards.
     ///
     /// [`ApplyError::Refused`]: the first change that is refused, by its place. [`ApplyError::Memory`] is want of it.
-    /// After an error the state is as it was. It is promised over entries that strictly increase by path, then stage;
-    /// over others the changed list is in no order that is told.
+    /// After an error the state is as it was. It is promised over entries that strictly increase by path, then stage,
+    /// and whose paths lie in the storage ([`paths_in_storage`](State::paths_in_storage)); over others the changed list
+    /// is in no order that is told.
     ///
     /// Over n entries, m changes whose paths rise cost n + m log n, in any other order up to n each. The entries are
     /// copied once, and so is resolve-undo. Each entry that a monitor couldn't vouch for is one search more.
@@ -31,7 +31,6 @@ impl State {
         check: &C,
         changes: &[Change<'_>],
     ) -> Result<(), ApplyError>
-        requires { PathsInStorage self.old }
         ensures { Applies (C.refusal check.now) changes.now self.old self.new result }
     {
         parts::apply(&mut self.parts, check, changes)

@@ -1,6 +1,5 @@
 //! Making one change of an index.
 
-ghost use Rattle.index_state.specs.State.{PathsInStorage};
 ghost use Rattle.index_state.specs.StateChanges.{Resolves, Stages, Unstages};
 
 use crate::State;
@@ -19,16 +18,15 @@ impl State {
     /// speaks of the entries is kept, as [`apply`](State::apply) keeps it for this one change.
     ///
     /// An error is what is wrong with the path, the mode, the id or a name of the path, or a want of room or memory, and
-    /// leaves the state as it was. It is promised over entries that strictly increase by path, then stage; over others
-    /// the changed list is in no order that is told. It makes a few searches, moves what lies behind, and copies
-    /// resolve-undo.
+    /// leaves the state as it was. It is promised over entries that strictly increase by path, then stage, and whose
+    /// paths lie in the storage ([`paths_in_storage`](State::paths_in_storage)); over others the changed list is in no
+    /// order that is told. It makes a few searches, moves what lies behind, and copies resolve-undo.
     pub fn stage<C: ComponentCheck>(
         &mut self,
         check: &C,
         entry: Pathless,
         path: &[u8],
     ) -> Result<Displaced, Error>
-        requires { PathsInStorage self.old }
         ensures { Stages (C.refusal check.now) entry path.entry self.old self.new result }
     {
         parts::stage(&mut self.parts, check, entry, path)
@@ -42,7 +40,6 @@ impl State {
         entry: Pathless,
         path: &[u8],
     ) -> Result<Displaced, Error>
-        requires { PathsInStorage self.old }
         ensures { Resolves (C.refusal check.now) entry path.entry self.old self.new result }
     {
         parts::resolve(&mut self.parts, check, entry, path)
@@ -55,7 +52,6 @@ impl State {
     /// has the path. An error is want of memory, and leaves the state as it was. It is promised over entries that
     /// strictly increase by path, then stage; over others nothing is said of which go.
     pub fn unstage(&mut self, path: &[u8]) -> Result<usize, AllocError>
-        requires { PathsInStorage self.old }
         ensures { Unstages path.entry self.old self.new result }
     {
         parts::unstage(&mut self.parts, path)

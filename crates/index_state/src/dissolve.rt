@@ -2,7 +2,6 @@
 
 ghost use Rattle.index_split.specs.Link.{link_of};
 ghost use Rattle.index_state.specs.Dissolve.{Dissolves};
-ghost use Rattle.index_state.specs.State.{PathsInStorage};
 
 use crate::State;
 use index_merge::merge;
@@ -11,8 +10,6 @@ use index_split::link::{Link, SplitIndex};
 
 /// Merges the shared index into the split one, as the link says.
 fn merge_shared(link: &Link, split: &mut State, shared: State) -> Result<(), Error>
-    requires placed { PathsInStorage split.old }
-    requires shared_placed { PathsInStorage shared }
     ensures { Dissolves (link_of link.now) shared split.old split.new result }
 {
     if shared.parts.extensions.link.is_some() {
@@ -40,8 +37,6 @@ fn merge_shared(link: &Link, split: &mut State, shared: State) -> Result<(), Err
 }
 
 impl SplitIndex for State {
-    ghost can_merge = { λ split shared. PathsInStorage split × PathsInStorage shared };
-
     ghost dissolves = { Dissolves };
 
     fn dissolve(&mut self, link: Link, shared: State) -> Result<(), Error> {

@@ -99,7 +99,6 @@ impl State {
 
     /// The entries with their paths, lent as one list.
     pub(crate) fn slice(&self) -> EntrySlice<'_>
-        requires { PathsInStorage self.now }
         ensures { result ≡ records self.now }
     {
         EntrySlice::new(&self.parts.entries, &self.parts.path_backing)
@@ -113,7 +112,8 @@ impl State {
         self.parts.extensions.is_sparse
     }
 
-    /// Whether each entry's path lies inside the storage, as calls that read paths ask; true without entries.
+    /// Whether each entry's path lies inside the storage, so that what is put behind it leaves each path as it is; true
+    /// without entries.
     pub fn paths_in_storage(&self) -> bool
         ensures { IsTrue result ↔ PathsInStorage self.now }
     {
@@ -122,7 +122,6 @@ impl State {
 
     /// Whether no path of the entries that aren't marked `REMOVE` has a NUL, so that version 4 can hold them.
     pub fn paths_without_nul(&self) -> bool
-        requires { PathsInStorage self.now }
         ensures { IsTrue result ↔ LackNul (contents self.now).records }
     {
         paths_without_nul(&self.parts.entries, &self.parts.path_backing)

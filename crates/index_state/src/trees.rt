@@ -5,7 +5,7 @@ ghost use Rattle.index_cached_tree.specs.Tree.{node_of};
 ghost use Rattle.index_entries.specs.Order.{IsStrictlyOrdered};
 ghost use Rattle.index_tree_writer.specs.Refusals.{AreFit};
 ghost use Rattle.index_state.specs.Edits.{with_cached_tree};
-ghost use Rattle.index_state.specs.State.{PathsInStorage, contents, records};
+ghost use Rattle.index_state.specs.State.{contents, records};
 ghost use Rattle.index_state.specs.StateEdits.{Renews, Sets};
 ghost use Rattle.index_state.specs.StateTrees.{HasFewEntries, HasFitEntries, HasRightIds, SaysNoTrees, SaysWrongIds};
 ghost use Rattle.index_state.specs.StateTrees.{StoresFirst, StoresTrees};
@@ -37,8 +37,7 @@ impl State {
         check: &C,
         sink: &mut S,
     ) -> Result<Tree, Error>
-        requires placed { PathsInStorage self.now }
-        requires ordered { IsStrictlyOrdered (records self.now) }
+        requires { IsStrictlyOrdered (records self.now) }
         ensures written { IfOk result
             (StoresTrees self.now (S.stored sink.old) (S.stored sink.new)) }
         ensures fit { IfOk result
@@ -86,8 +85,7 @@ impl State {
     /// Before any node, it is the first merged entry that has no place in a tree, as
     /// [`write_trees`](State::write_trees) tells it, but that any name passes.
     pub fn verify_tree_ids(&self, alloc: Global) -> Result<(), tree_ids::Error>
-        requires placed { PathsInStorage self.now }
-        requires ordered { IsStrictlyOrdered (records self.now) }
+        requires { IsStrictlyOrdered (records self.now) }
         ensures right { IfOk result (λ _. HasRightIds self.now) }
         ensures fit { IfOk result (λ _. HasFitEntries self.now) }
         ensures few { IfOk result (λ _. HasFewEntries self.now) }

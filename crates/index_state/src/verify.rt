@@ -6,7 +6,7 @@ pub mod tree_ids;
 ghost use Rattle.std.specs.Prelude.{◌≡◌, ◌↔◌, ℕ, false, IfErr, IfOk, IsOk, IsTrue, OnOk, Some, take};
 ghost use Rattle.index_entries.specs.Order.{IsOrderedByPath, IsStrictlyOrdered};
 ghost use Rattle.index_entries.specs.Sorted.{IsFirstFall};
-ghost use Rattle.index_state.specs.State.{PathsInStorage, records};
+ghost use Rattle.index_state.specs.State.{records};
 ghost use Rattle.index_state.specs.SoundState.{SaysFall};
 ghost use Rattle.index_state.specs.SoundState.{HasSoundTree, JudgesTree, SaysUnsound};
 
@@ -40,7 +40,6 @@ impl State {
     /// paths never fall, and the same holds of the first entries, however many. The error names the first entry that
     /// isn't above the one before it; memory is asked for to name it alone.
     pub fn verify_entries(&self) -> Result<(), entries::Error>
-        requires { PathsInStorage self.now }
         ensures ok { IsOk result ↔ IsStrictlyOrdered (records self.now) }
         ensures by_path { OnOk result (IsOrderedByPath (records self.now)) }
         ensures prefixes { OnOk result ((n : ℕ) → IsStrictlyOrdered (take n (records self.now))) }

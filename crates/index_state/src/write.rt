@@ -5,7 +5,7 @@ ghost use Rattle.index_parts.specs.Taking.{Hashes};
 ghost use Rattle.index_format.specs.Image.{body, image_version};
 ghost use Rattle.index_format.specs.Storable.{IsWritable};
 ghost use Rattle.index_format.specs.Writing.{RefusedWith, Writes};
-ghost use Rattle.index_state.specs.State.{PathsInStorage, contents};
+ghost use Rattle.index_state.specs.State.{contents};
 
 use crate::State;
 use index_entries::Version;
@@ -29,8 +29,6 @@ impl State {
     /// the writer as it was. [`Error::Io`] comes only where the writer failed, which then took a prefix of the bytes.
     /// No memory is taken.
     pub fn write_to<W: Out>(&self, out: &mut W, options: Options) -> Result<Version, Error>
-        requires placed { PathsInStorage self.now }
-        requires unfailed { W.failed out.old ≡ false }
         ensures version { IfOk result
             (λ version. version ≡ image_version (contents self.now) options) }
         ensures bytes { Writes W.taken W.failed out.old out.new result

@@ -39,18 +39,13 @@ records_one storage es place e lt at =
     ∙ map-append (record_in storage) (take place es) (e ∷ [])
 
 -- a sum that passes 64 bits is of paths that pass them
-pub too_many : (storage : List ℕ) (es : List Entry) (place sum : ℕ) (d : Entry) (from to : ℕ) → place < length es
-    → from ≡ range_start (get_or es place d).path → to ≡ range_end (get_or es place d).path
-    → sum ≡ paths_len (records_in storage (take place es))
-    → (sum + length (slice_range storage from to) < 2 ^ 64 → ⊥)
-    → None ≡ in_64_bits (paths_len (records_in storage es))
-too_many storage es place sum d from to lt from_is to_is sum_is large =
+pub too_many : (storage : List ℕ) (es : List Entry) (place sum : ℕ) (d : Entry) (path : List ℕ) → place < length es
+    → path ≡ (record_in storage (get_or es place d)).path → sum ≡ paths_len (records_in storage (take place es))
+    → (sum + length path < 2 ^ 64 → ⊥) → None ≡ in_64_bits (paths_len (records_in storage es))
+too_many storage es place sum d path lt path_is sum_is large =
     let e : Entry = get_or es place d in
     let at : (x : Entry) → get_or es place x ≡ e = λ x. get_or_default es place x d lt in
-    let path_is : slice_range storage from to ≡ slice_range storage (range_start e.path) (range_end e.path) =
-    ap (λ (n : ℕ). slice_range storage n to) from_is ∙ ap (slice_range storage (range_start e.path)) to_is in
-    let le : 2 ^ 64 ≤ sum + length (slice_range storage from to) =
-    by large (cases_lt (sum + length (slice_range storage from to)) (2 ^ 64)) in
+    let le : 2 ^ 64 ≤ sum + length path = by large (cases_lt (sum + length path) (2 ^ 64)) in
     none_from (paths_len (records_in storage es))
     (omega (
       arith,
@@ -103,15 +98,12 @@ module _ (entries0 : List Entry) (storage0 : List ℕ) (rows0 : List Row) (paths
 
   -- there are bytes for the next path
   pub next_fits : (place start : ℕ) (rows : List Row) (paths : List ℕ) (p : Copied place start rows paths)
-      (d : Entry) (from to : ℕ) → place < length entries0 → from ≡ range_start (get_or entries0 place d).path
-      → to ≡ range_end (get_or entries0 place d).path
-      → paths_len (records_in storage0 entries0) ≤ length paths0
-      → start + length (slice_range storage0 from to) ≤ length paths0
-  next_fits place start rows paths p d from to lt from_is to_is fits =
+      (d : Entry) (path : List ℕ) → place < length entries0
+      → path ≡ (record_in storage0 (get_or entries0 place d)).path
+      → paths_len (records_in storage0 entries0) ≤ length paths0 → start + length path ≤ length paths0
+  next_fits place start rows paths p d path lt path_is fits =
       let e : Entry = get_or entries0 place d in
       let at : (x : Entry) → get_or entries0 place x ≡ e = λ x. get_or_default entries0 place x d lt in
-      let path_is : slice_range storage0 from to ≡ slice_range storage0 (range_start e.path) (range_end e.path) =
-      ap (λ (n : ℕ). slice_range storage0 n to) from_is ∙ ap (slice_range storage0 (range_start e.path)) to_is in
       let so_far = records_upto storage0 entries0 (place + 1) in
       omega (
         arith,
@@ -124,18 +116,14 @@ module _ (entries0 : List Entry) (storage0 : List ℕ) (rows0 : List Row) (paths
       )
 
   pub more : (place start : ℕ) (rows : List Row) (paths : List ℕ) (p : Copied place start rows paths) (d : Entry)
-      (from to : ℕ) (put : List ℕ) (row : Row) → place < length entries0 → place < length rows
-      → from ≡ range_start (get_or entries0 place d).path → to ≡ range_end (get_or entries0 place d).path
-      → row ≡ row_from (parts_of (get_or entries0 place d)) start (length (slice_range storage0 from to))
-      → put ≡ take start paths ++ (slice_range paths start (start + 0) ++ slice_range storage0 from to)
-      ++ drop (start + (0 + length (slice_range storage0 from to))) paths
-      → Copied (place + 1) (start + length (slice_range storage0 from to))
-      (set rows place row) put
-  more place start rows paths p d from to put new lt fit from_is to_is row_is put_is =
+      (path put : List ℕ) (row : Row) → place < length entries0 → place < length rows
+      → path ≡ (record_in storage0 (get_or entries0 place d)).path
+      → row ≡ row_from (parts_of (get_or entries0 place d)) start (length path)
+      → put ≡ take start paths ++ (slice_range paths start (start + 0) ++ path)
+      ++ drop (start + (0 + length path)) paths
+      → Copied (place + 1) (start + length path) (set rows place row) put
+  more place start rows paths p d path put new lt fit path_is row_is put_is =
       let e : Entry = get_or entries0 place d in
-      let path : List ℕ = slice_range storage0 from to in
-      let path_is : path ≡ slice_range storage0 (range_start e.path) (range_end e.path) =
-      ap (λ (n : ℕ). slice_range storage0 n to) from_is ∙ ap (slice_range storage0 (range_start e.path)) to_is in
       let end : ℕ = start + length path in
       let at : (x : Entry) → get_or entries0 place x ≡ e = λ x. get_or_default entries0 place x d lt in
       let zero : start + 0 - start ≡ 0 = omega arith in

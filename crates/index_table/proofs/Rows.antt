@@ -1,11 +1,16 @@
 -- A value whose records are put in anew.
-use Rattle.std.proofs.Common.{◌≡◌, ℕ, Bool, true, false, not, List, [], ◌∷◌, ◌++◌, filter, refl, ap, ◌∙◌}
+use Rattle.std.proofs.Common.{◌≡◌, ℕ, Bool, true, false, not, List, [], ◌∷◌, ◌++◌, All, filter, length, map, refl, ap}
+use Rattle.std.proofs.Common.{◌∙◌}
+use Rattle.std.proofs.lemmas.List.Elements.{All-nil}
 use Rattle.gix_index.specs.Contents.{Contents}
 use Rattle.gix_index.specs.Edits.{edited, empty_contents, refit}
 use Rattle.gix_index.specs.EntryImage.{written}
+use Rattle.gix_index.specs.EntryType.{Entry}
 use Rattle.gix_index.specs.FileTime.{FileTime}
 use Rattle.gix_index.specs.Kind.{Kind}
-use Rattle.gix_index.specs.Record.{Record}
+use Rattle.gix_index.specs.Record.{IsPlaced, Record, record_in}
+use Rattle.gix_index.specs.State.{PathsInStorage, entries_of, records, storage_of}
+use Rattle.gix_index.specs.StateType.{State}
 use Rattle.index_table.specs.Table.{records_of}
 use Rattle.index_table.specs.Writing.{IsSpelledBy}
 use Rattle.index_table.specs.declared.row.Row.{Row}
@@ -30,6 +35,14 @@ no_records (r ∷ rs) = no_records rs
 pub none_left : (v w : Contents) → w ≡ edited v w.records → w.records ≡ filter (λ r. not true) v.records
     → w ≡ edited v []
 none_left v w e h = e ∙ ap (edited v) (h ∙ no_records v.records)
+
+-- where there is no record, no path lies outside of the storage
+pub none_placed : (s : State) → records s ≡ [] → PathsInStorage s
+none_placed s e = by (entries_of s) e
+  where
+    by : (es : List Entry) → map (record_in (storage_of s)) es ≡ [] → All (IsPlaced (length (storage_of s))) es
+    by [] e = All-nil (IsPlaced (length (storage_of s)))
+    by (x ∷ es) e = absurd cc
 
 -- an empty value into which the records of rows are put
 pub spelled_from : (kind : Kind) (time : FileTime) (paths : List ℕ) (rows : List Row) (v w : Contents)

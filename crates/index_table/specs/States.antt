@@ -15,6 +15,7 @@ use Rattle.index_table.specs.Reading.{BytesEndAs, FailsSo}
 use Rattle.index_table.specs.Refusing.{MakesNothing}
 use Rattle.index_table.specs.Table.{records_of}
 use Rattle.index_table.specs.Updating.{IsChangedBy}
+use Rattle.index_table.specs.Writing.{IsSpelledBy}
 use Rattle.index_table.specs.declared.fault.Failure.{Failure}
 use Rattle.index_table.specs.declared.row.Row.{Row}
 use Rattle.index_table.specs.declared.write.Unwritten.{Unwritten}
@@ -34,6 +35,11 @@ ReadsState expected skip kind bytes r =
     GivesState (λ v. (checksum : Option ObjectId) × BytesEndAs expected skip kind bytes (Ok (v, checksum)))
     (FailsSo expected skip kind bytes) r
 
+-- the state that a table spells, whose paths lie in its storage
+pub record SpellsState {E : Type 0} (kind : Kind) (paths : List ℕ) (rows : List Row) (r : Result State E) : Type 0 where
+  pub spelled : IfOk r (λ state. IsSpelledBy kind paths rows (contents state))
+  pub placed : IfOk r PathsInStorage
+
 -- what a value comes to that is joined to the shared index of these bytes by the link that it had
 abbrev pub JoinsBy : Bool → Kind → LinkValue → List ℕ → Contents → Result State Failure → Type 0
 JoinsBy skip kind link shared split r =
@@ -46,27 +52,21 @@ ReadsBoth skip kind bytes shared r =
 
 -- ---- what is changed
 
--- behind an Ok the value is so, and the paths lie in storage
-pub record BecomesSo {E : Type 0} (P : Contents → Type 0) (new : State) (r : Result (Unit {0}) E) : Type 0 where
-  pub value : OnOk r (P (contents new))
-  pub placed : OnOk r (PathsInStorage new)
-
--- behind an Ok the records of the rows that aren't left out stand behind those that were there; where there are any,
--- the extensions aren't known to fit them
+-- behind an Ok the records of the rows that aren't left out stand behind those that were there, whose paths lie in
+-- storage; where there are any, the extensions aren't known to fit them
 pub record PushesRows {E : Type 0} (paths : List ℕ) (rows : List Row) (old new : State) (r : Result (Unit {0}) E)
     : Type 0 where
-  pub value : OnOk r (contents new ≡ refit (contents old) (records old ++ written (records_of paths rows))
-      (contents new).fit)
+  pub value : OnOk r (PathsInStorage old → contents new
+      ≡ refit (contents old) (records old ++ written (records_of paths rows)) (contents new).fit)
   pub unfit : (contents old).fit ≡ false → (contents new).fit ≡ false
-  pub placed : OnOk r (PathsInStorage new)
+  pub placed : OnOk r (PathsInStorage old → PathsInStorage new)
 
 -- the value has its cached tree put in anew, where it has one
 abbrev pub PutsTreeAnew : Contents → Contents → Type 0
 PutsTreeAnew v w = MatchOption v.extensions.tree (w ≡ v) (λ t. w ≡ with_cached_tree v t)
 
--- all changes that rows say are made, or none, and then why; paths lie in storage, whichever it is
+-- all changes that rows say are made of a state whose paths lie in storage, or none, and then why
 pub record MakesChanges (kind : Kind) (paths : List ℕ) (rows : List Row) (old new : State)
     (r : Result (Unit {0}) Unwritten) : Type 0 where
-  pub changed : OnOk r (IsChangedBy kind paths rows (contents old) (contents new))
-  pub placed : PathsInStorage new
+  pub changed : OnOk r (PathsInStorage old → IsChangedBy kind paths rows (contents old) (contents new))
   pub why : IfErr r (MakesNothing kind paths rows (contents old))

@@ -4,7 +4,7 @@ ghost use Rattle.std.specs.Prelude.{◌≡◌, ◌≤◌, ◌+◌, All, length};
 ghost use Rattle.gix_index.specs.Contents.{Contents};
 ghost use Rattle.gix_index.specs.Outlined.{Outlines};
 ghost use Rattle.gix_index.specs.Outlined.Passed.{in_64_bits, paths_len};
-ghost use Rattle.gix_index.specs.Record.{IsPlaced, IsSized, records_in};
+ghost use Rattle.gix_index.specs.Record.{IsSized, records_in};
 ghost use Rattle.gix_index.specs.Storable.{IsStorable};
 ghost use Rattle.index_table.specs.Filling.{FillsEntries, FillsOutline, HasEntries, with_path_at};
 ghost use Rattle.index_table.specs.Reading.{sizes_of};
@@ -57,22 +57,20 @@ fn fill_entries(
     }
 }
 
-/// How many bytes the paths of entries, which lie in a storage, have together; None where that takes more than 64 bits.
+/// How many bytes the paths of entries in a storage have together; None where that takes more than 64 bits.
 pub(crate) fn path_bytes_of(entries: &[Entry], storage: &[u8]) -> Option<usize>
-    requires { All (IsPlaced (length storage.now)) entries.now }
     ensures { result ≡ in_64_bits (paths_len (records_in storage.now entries.now)) }
 {
     let mut sum: usize = 0;
     for place in 0..entries.len() {
-        let path = &storage[entries[place].path_range()];
+        let path = entries[place].path_in(storage);
         sum = sum.checked_add(path.len())?;
     }
     Some(sum)
 }
 
-/// Fills in the row and the path of each entry, one path behind the other. The entries' own paths lie in a storage.
+/// Fills in the row and the path of each entry, one path behind the other. The entries' own paths are in a storage.
 pub(crate) fn fill(entries: &[Entry], storage: &[u8], rows: &mut [Row], paths: &mut [u8])
-    requires placed { All (IsPlaced (length storage.now)) entries.now }
     requires sized { All IsSized (records_in storage.now entries.now) }
     requires rows_fit { length entries.now ≤ length rows.old }
     requires paths_fit { paths_len (records_in storage.now entries.now) ≤ length paths.old }
@@ -82,7 +80,7 @@ pub(crate) fn fill(entries: &[Entry], storage: &[u8], rows: &mut [Row], paths: &
     let mut start = 0;
     for place in 0..entries.len() {
         let entry = &entries[place];
-        let path = &storage[entry.path_range()];
+        let path = entry.path_in(storage);
         put_path(paths, start, start, 0, path);
         let parts = Pathless {
             stat: entry.stat,

@@ -1,11 +1,11 @@
 //! Writing a caller's table in place of an index, of which all extensions that fit the rows are kept.
 
-ghost use Rattle.std.specs.Prelude.{◌≡◌, [], Err, IfSome};
+ghost use Rattle.std.specs.Prelude.{◌≡◌, [], Err, IfSome, OnOk};
 ghost use Rattle.gix_index.specs.Edits.{edited};
 ghost use Rattle.gix_index.specs.Order.{IsStrictlyOrdered};
 ghost use Rattle.gix_index.specs.State.{PathsInStorage, contents, records};
 ghost use Rattle.index_table.specs.Fitting.{IsFitTable};
-ghost use Rattle.index_table.specs.States.{BecomesSo, PutsTreeAnew};
+ghost use Rattle.index_table.specs.States.{PutsTreeAnew};
 ghost use Rattle.index_table.specs.Overwriting.{HasRowsInstead, KeepsTree, PutsInPlace, Replaces, WritesOverIndex};
 ghost use Rattle.index_table.specs.declared.over.CachedTree.TheVariants.{Absent};
 
@@ -51,7 +51,6 @@ fn not_written(e: Unwritten) -> Replacement
 
 /// Takes all entries out. The extensions aren't known to fit them then; all else stays.
 fn remove_all(state: &mut State)
-    requires { PathsInStorage state.old }
     ensures value { contents state.new ≡ edited (contents state.old) [] }
     ensures placed { PathsInStorage state.new }
 {
@@ -61,8 +60,8 @@ fn remove_all(state: &mut State)
 /// Puts the entries of the rows that aren't left out in the place of those that are there. The extensions aren't known to
 /// fit them then; all else stays.
 fn replace_all(state: &mut State, rows: &[Row], paths: &[u8]) -> Result<(), AllocError>
-    requires { PathsInStorage state.old }
-    ensures { BecomesSo (HasRowsInstead (contents state.old) paths.now rows.now) state.new result }
+    ensures { OnOk result
+        (HasRowsInstead (contents state.old) paths.now rows.now (contents state.new)) }
 {
     remove_all(state);
     push_rows(state, rows, paths)
@@ -70,8 +69,8 @@ fn replace_all(state: &mut State, rows: &[Row], paths: &[u8]) -> Result<(), Allo
 
 /// Puts the entries of the rows in the place of those that are there, unless these are the same.
 fn replace(state: &mut State, rows: &[Row], paths: &[u8]) -> Result<(), AllocError>
-    requires { PathsInStorage state.old }
-    ensures { BecomesSo (Replaces (contents state.old) paths.now rows.now) state.new result }
+    ensures { OnOk result
+        (Replaces (contents state.old) paths.now rows.now (contents state.new)) }
 {
     if are_entries_of(rows, paths, state) {
         return Ok(());
@@ -81,8 +80,7 @@ fn replace(state: &mut State, rows: &[Row], paths: &[u8]) -> Result<(), AllocErr
 
 /// Puts the cached tree in, in its own place: it fits the entries.
 fn put_in_anew(state: &mut State)
-    ensures value { PutsTreeAnew (contents state.old) (contents state.new) }
-    ensures placed { PathsInStorage state.old → PathsInStorage state.new }
+    ensures { PutsTreeAnew (contents state.old) (contents state.new) }
 {
     if let Some(tree) = state.remove_tree() {
         state.set_tree(tree);
@@ -92,11 +90,9 @@ fn put_in_anew(state: &mut State)
 /// Keeps the cached tree where it tells what the entries give: it fits them then. Else takes it out. Says what became of
 /// it; None for want of memory.
 fn keep_tree(alloc: Global, state: &mut State) -> Option<CachedTree>
-    requires placed { PathsInStorage state.old }
-    requires ordered { IsStrictlyOrdered (records state.old) }
-    ensures keeps { IfSome result
+    requires { IsStrictlyOrdered (records state.old) }
+    ensures { IfSome result
         (λ tree. KeepsTree (contents state.old) tree (contents state.new)) }
-    ensures placed { PathsInStorage state.new }
 {
     let Some(_tree) = state.tree() else {
         return Some(CachedTree::Absent);
@@ -124,8 +120,7 @@ fn put_fit(
     format: &Format,
     room: &mut [u8],
 ) -> Replacement
-    requires placed { PathsInStorage state }
-    requires table { IsFitTable format.now.kind (contents state).extensions.sparse paths.now rows.now }
+    requires { IsFitTable format.now.kind (contents state).extensions.sparse paths.now rows.now }
     ensures { PutsInPlace format.now paths.now rows.now (contents state) room.old room.new result }
 {
     if let Err(_) = replace(&mut state, rows, paths) {

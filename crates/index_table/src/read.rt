@@ -2,7 +2,7 @@
 
 ghost use Rattle.std.specs.Prelude.{◌≡◌, All};
 ghost use Rattle.gix_index.specs.Record.{IsSized};
-ghost use Rattle.gix_index.specs.State.{PathsInStorage, contents};
+ghost use Rattle.gix_index.specs.State.{contents};
 ghost use Rattle.index_table.specs.Filling.{FillsIndex, FillsValue, TellsSmall};
 ghost use Rattle.index_table.specs.States.{ReadsState};
 ghost use Rattle.index_table.specs.Reading.{link_id, sizes_with};
@@ -70,8 +70,7 @@ pub(crate) fn lacks_room(sizes: &Sizes, rows: &[Row], paths: &[u8]) -> bool
 /// Fills a state's entries into a table, if there is room. Want of memory stands for paths that have 2^64 bytes or more
 /// together.
 pub(crate) fn table_of(state: &State, rows: &mut [Row], paths: &mut [u8]) -> Result<Sizes, Unread>
-    requires placed { PathsInStorage state.now }
-    requires sized { All IsSized (contents state.now).records }
+    requires { All IsSized (contents state.now).records }
     ensures { FillsValue (contents state.now) rows.old rows.new paths.old paths.new result }
 {
     let (entries, storage) = (state.entries(), state.path_backing());

@@ -1,8 +1,8 @@
 //! Whether a table has the entries of an index.
 
-ghost use Rattle.std.specs.Prelude.{◌↔◌, IsTrue, length};
-ghost use Rattle.gix_index.specs.Record.{IsPlaced, record_in};
-ghost use Rattle.gix_index.specs.State.{PathsInStorage, records};
+ghost use Rattle.std.specs.Prelude.{◌↔◌, IsTrue};
+ghost use Rattle.gix_index.specs.Record.{record_in};
+ghost use Rattle.gix_index.specs.State.{records};
 ghost use Rattle.index_table.specs.Overwriting.{AreEntries, SpellsThis};
 
 use crate::row::{Row, path_of, stat_of};
@@ -11,7 +11,6 @@ use gix_index::{BitFlags as _, Entry, PathStorageRef, State};
 
 /// Whether the row isn't left out, and spells the entry.
 fn is_row_of(row: &Row, paths: &[u8], entry: &Entry, storage: PathStorageRef<'_>) -> bool
-    requires { IsPlaced (length storage.now) entry.now }
     ensures { IsTrue result ↔ SpellsThis paths.now row.now (record_in storage.now entry.now) }
 {
     !is_left_out(row)
@@ -24,7 +23,6 @@ fn is_row_of(row: &Row, paths: &[u8], entry: &Entry, storage: PathStorageRef<'_>
 
 /// Whether the rows are the entries of a state, one by one, and none is left out.
 pub(crate) fn are_entries_of(rows: &[Row], paths: &[u8], state: &State) -> bool
-    requires { PathsInStorage state.now }
     ensures { IsTrue result ↔ AreEntries (records state.now) paths.now rows.now }
 {
     let (entries, storage) = (state.entries(), state.path_backing());

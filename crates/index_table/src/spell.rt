@@ -1,13 +1,11 @@
 //! The value that a table spells, where each row can stand in a file.
 
-ghost use Rattle.std.specs.Prelude.{◌≡◌, ◌↔◌, IfOk, IsTrue, take};
+ghost use Rattle.std.specs.Prelude.{◌≡◌, ◌↔◌, IsTrue, take};
 ghost use Rattle.gix_index.specs.EntryImage.{is_removed};
 ghost use Rattle.gix_index.specs.Order.{record_cmp};
-ghost use Rattle.gix_index.specs.State.{PathsInStorage, contents};
 ghost use Rattle.index_table.specs.Fitting.{CanStand, HasPlainPath, IsFirstFallen, IsFirstUnfit, IsFit, falls_behind, has_git_mode, unfit_fault};
-ghost use Rattle.index_table.specs.States.{PushesRows};
+ghost use Rattle.index_table.specs.States.{PushesRows, SpellsState};
 ghost use Rattle.index_table.specs.Table.{records_of, row_id, spelled};
-ghost use Rattle.index_table.specs.Writing.{IsSpelledBy};
 
 use crate::row::{Row, SHA256, number_of_kind, path_of, stage_of, stat_of};
 use crate::write::Fault;
@@ -144,7 +142,6 @@ pub(crate) fn first_fallen(rows: &[Row], paths: &[u8]) -> Option<usize>
 /// Puts the entry of each row that isn't left out at the end, in their order. Where there is one, the extensions aren't
 /// known to fit the entries then; all else stays.
 pub(crate) fn push_rows(state: &mut State, rows: &[Row], paths: &[u8]) -> Result<(), AllocError>
-    requires { PathsInStorage state.old }
     ensures { PushesRows paths.now rows.now state.old state.new result }
 {
     for row in rows {
@@ -161,9 +158,7 @@ pub(crate) fn push_rows(state: &mut State, rows: &[Row], paths: &[u8]) -> Result
 
 /// The value that the rows spell: the records of those that aren't left out, in their order, and no extension.
 pub fn spelled(alloc: Global, rows: &[Row], paths: &[u8], kind: Kind) -> Result<State, AllocError>
-    ensures spelled { IfOk result
-        (λ state. IsSpelledBy kind paths.now rows.now (contents state)) }
-    ensures placed { IfOk result PathsInStorage }
+    ensures { SpellsState kind paths.now rows.now result }
 {
     let mut state = State::new(alloc, kind, FileTime::EPOCH);
     push_rows(&mut state, rows, paths)?;

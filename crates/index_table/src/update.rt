@@ -1,7 +1,6 @@
 //! Changes of an index, which the rows of a caller's table say.
 
 ghost use Rattle.std.specs.Prelude.{◌≡◌, IfOk};
-ghost use Rattle.gix_index.specs.State.{PathsInStorage};
 ghost use Rattle.index_info.specs.Text.{change_value};
 ghost use Rattle.index_table.specs.States.{MakesChanges};
 ghost use Rattle.index_table.specs.Refusing.{WritesUpdate, change_fault, order_told};
@@ -92,7 +91,6 @@ fn make_changes(
     rows: &[Row],
     paths: &[u8],
 ) -> Result<(), Unwritten>
-    requires placed { PathsInStorage state.old }
     ensures { MakesChanges kind paths.now rows.now state.old state.new result }
 {
     if let Err(e) = state.verify_entries() {

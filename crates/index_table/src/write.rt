@@ -1,7 +1,7 @@
 //! Writing a caller's table as an index.
 
 ghost use Rattle.std.specs.Prelude.{◌≡◌, ◌++◌, ◌≤◌, ◌<◌, IfSome, None, drop, false, length, true};
-ghost use Rattle.gix_index.specs.State.{PathsInStorage, contents};
+ghost use Rattle.gix_index.specs.State.{contents};
 ghost use Rattle.index_table.specs.Fitting.{IsFitTable, IsUnfitTable};
 ghost use Rattle.index_table.specs.Writing.{IfUnwritten, PutsValue, WritesTable, options_with, reason_told};
 
@@ -100,7 +100,6 @@ pub(crate) fn put_state(
     options: Options,
     room: &mut [u8],
 ) -> Result<Image, Unwritten>
-    requires placed { PathsInStorage state }
     ensures { PutsValue (contents state) options room.old room.new result }
 {
     let file = File::from_state(state, PathBuf::new(alloc));

@@ -1,7 +1,5 @@
 //! The command `map`.
 
-ghost use Rattle.std.specs.Prelude.{◌≡◌, false};
-ghost use Rattle.index_inspect.specs.Remains.{last_begin};
 ghost use Rattle.index_telling.specs.Mapping.{MapsFile};
 
 use gix_index::file::folder::Folder;
@@ -10,19 +8,10 @@ use gix_index::hash::io::Out;
 use index_failures::failure::Failure;
 use index_failures::index::{bytes_at, out_of_memory};
 use index_inspect::divide;
-use index_map::{Part, write_map};
+use index_inspect::remains::last_begin;
+use index_map::write_map;
 use index_text::lines::Lines;
 use std::alloc::Global;
-
-/// Where the last part begins, or 0 where there is none.
-pub fn last_offset(parts: &[Part]) -> usize
-    ensures { result ≡ last_begin parts.now }
-{
-    match parts.last() {
-        Some(part) => part.offset,
-        None => 0,
-    }
-}
 
 /// Writes a line to `out` for each part of a file, which may be damaged.
 ///
@@ -37,7 +26,6 @@ pub fn map<'a, D: Folder, W: Out>(
     path: &'a str,
     out: &mut W,
 ) -> Result<(), Failure<'a>>
-    requires unfailed { W.failed out.old ≡ false }
     ensures { MapsFile style D.Folder folder.now kind path.now W.Out out.old out.new result }
 {
     let (bytes, _) = bytes_at(folder, alloc, path)?;
@@ -47,7 +35,7 @@ pub fn map<'a, D: Folder, W: Out>(
     if let Err(e) = write_map(alloc, &division.entries, &division.parts, style, out) {
         return Err(Failure::Output(e));
     }
-    let offset = last_offset(&division.parts);
+    let offset = last_begin(&division.parts);
     match division.fault {
         None => Ok(()),
         Some(fault) => Err(Failure::Damaged {

@@ -1,15 +1,14 @@
 //! The command `map-svg`.
 
-ghost use Rattle.std.specs.Prelude.{◌≡◌, false};
 ghost use Rattle.index_telling.specs.Mapping.{DrawsFile};
 
-use crate::map::last_offset;
 use gix_index::file::folder::Folder;
 use gix_index::hash::Kind;
 use gix_index::hash::io::Out;
 use index_failures::failure::Failure;
 use index_failures::index::{bytes_at, out_of_memory};
 use index_inspect::divide;
+use index_inspect::remains::last_begin;
 use index_picture::write_svg;
 use std::alloc::Global;
 
@@ -25,7 +24,6 @@ pub fn map_svg<'a, D: Folder, W: Out>(
     path: &'a str,
     out: &mut W,
 ) -> Result<(), Failure<'a>>
-    requires unfailed { W.failed out.old ≡ false }
     ensures { DrawsFile D.Folder folder.now kind path.now W.Out out.old out.new result }
 {
     let (bytes, _) = bytes_at(folder, alloc, path)?;
@@ -35,7 +33,7 @@ pub fn map_svg<'a, D: Folder, W: Out>(
     if let Err(e) = write_svg(alloc, &division.entries, &division.parts, out) {
         return Err(Failure::Output(e));
     }
-    let offset = last_offset(&division.parts);
+    let offset = last_begin(&division.parts);
     match division.fault {
         None => Ok(()),
         Some(fault) => Err(Failure::Damaged {

@@ -1,6 +1,5 @@
 //! The command `show`.
 
-ghost use Rattle.std.specs.Prelude.{◌≡◌, false};
 ghost use Rattle.index_telling.specs.Showing.{ReadsAlone, ShowsFile};
 
 use gix_index::entry::FileTime;
@@ -59,7 +58,6 @@ pub fn show<'a, D: Folder, W: Out>(
     path: &'a str,
     out: &mut W,
 ) -> Result<(), Failure<'a>>
-    requires unfailed { W.failed out.old ≡ false }
     ensures { ShowsFile D.Folder folder.now kind path.now W.Out out.old out.new result }
 {
     let Told { index, marks } = told_at(folder, alloc, kind, path)?;

@@ -1,6 +1,5 @@
 //! The command `show-json`.
 
-ghost use Rattle.std.specs.Prelude.{◌≡◌, false};
 ghost use Rattle.index_telling.specs.Showing.{ShowsJson};
 
 use crate::show::{Told, told_at};
@@ -22,7 +21,6 @@ pub fn show_json<'a, D: Folder, W: Out>(
     path: &'a str,
     out: &mut W,
 ) -> Result<(), Failure<'a>>
-    requires unfailed { W.failed out.old ≡ false }
     ensures { ShowsJson D.Folder folder.now kind path.now W.Out out.old out.new result }
 {
     let Told { index, marks } = told_at(folder, alloc, kind, path)?;

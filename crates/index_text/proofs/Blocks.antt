@@ -2,12 +2,13 @@
 use Rattle.std.proofs.Common.{◌≡◌, ℕ, List, [], ◌++◌, Result, Ok, Err, true, false, refl, ap, sym, subst, ◌∙◌}
 use Rattle.std.proofs.Common.{append-nil, append_assoc}
 use Rattle.index_parts.proofs.Taking.{Appends-nil}
-use Rattle.std.specs.Prelude.{OnErr, OnOk, Option, is_err}
+use Rattle.std.specs.Prelude.{Option}
 use Rattle.std.specs.Io.KnownBytes.{Appends}
 use Rattle.std.specs.IoError.{error_kind}
 use Rattle.std.specs.declared.io.Error.{Error}
 use Rattle.std.specs.declared.io.ErrorKind.TheVariants.{OutOfMemory}
 use Rattle.index_parts.specs.declared.hash.io.Out.{Ghosts}
+use Rattle.index_parts.specs.Puts.{Puts}
 use Rattle.index_parts.specs.Taking.{AppendsPrefix}
 use Rattle.index_parts.proofs.Taking.{Appends-trans, prefix_after, prefix_before}
 use Rattle.index_text.specs.Blocks.{Passes, PutsBlocks, PutsText}
@@ -57,12 +58,12 @@ cut_then u v w {waiting} {text} {all} p e q =
 -- ---- calls
 
 -- nothing went out yet
-pub none_out : {S : Type 0} {w : Ghosts S} {a : S} {waiting text : List ℕ} → w.failed a ≡ false → waiting ≡ text
+pub none_out : {S : Type 0} {w : Ghosts S} {a : S} {waiting text : List ℕ} → waiting ≡ text
     → PutsBlocks {T = Unit {0}} w a a (Ok tt) waiting text
-none_out {w = w} {a = a} going e = record {
+none_out {w = w} {a = a} e = record {
   ok = ([], Appends-nil (w.taken a), e);
   err = tt;
-  going = going;
+  going = λ f. f;
   cause = tt;
   loan = refl;
 }
@@ -85,7 +86,7 @@ pub blocks_then : {S T U : Type 0} {w : Ghosts S} {a b c : S} {x : U} (r : Resul
 blocks_then {w = w} {a = a} {b = b} {c = c} (Ok y) more p q = record {
   ok = passed_then (w.taken a) (w.taken b) (w.taken c) more p.ok q.ok;
   err = tt;
-  going = q.going;
+  going = λ f. q.going (p.going f);
   cause = tt;
   loan = q.loan ∙ p.loan;
 }
@@ -93,14 +94,14 @@ blocks_then {w = w} {a = a} {b = b} {c = c} (Err e) more p q = record {
   ok = tt;
   err = broken_then (w.taken a) (w.taken b) (w.taken c) more p.ok q.err;
   going = tt;
-  cause = q.cause;
+  cause = λ n f. q.cause n (p.going f);
   loan = q.loan ∙ p.loan;
 }
 
 -- it lets out a block of what waits
 pub block_out : {S T U : Type 0} {w : Ghosts S} {a b c : S} {x : U} {y : T} {waiting text later : List ℕ}
-    → PutsBlocks w a b (Ok x) waiting text → Passes (w.taken b) (w.taken c) later waiting → w.failed c ≡ false
-    → w.loan c ≡ w.loan b → PutsBlocks w a c (Ok y) later text
+    → PutsBlocks w a b (Ok x) waiting text → Passes (w.taken b) (w.taken c) later waiting
+    → (w.failed b ≡ false → w.failed c ≡ false) → w.loan c ≡ w.loan b → PutsBlocks w a c (Ok y) later text
 block_out {w = w} {a = a} {b = b} {c = c} {waiting = waiting} {text = text} {later = later} p q going loan = record {
   ok = (
     p.ok.0 ++ q.0,
@@ -108,7 +109,7 @@ block_out {w = w} {a = a} {b = b} {c = c} {waiting = waiting} {text = text} {lat
     append_assoc p.ok.0 q.0 later ∙ ap (λ (l : List ℕ). p.ok.0 ++ l) q.2 ∙ p.ok.2,
   );
   err = tt;
-  going = going;
+  going = λ f. going (p.going f);
   cause = tt;
   loan = loan ∙ p.loan;
 }
@@ -116,14 +117,14 @@ block_out {w = w} {a = a} {b = b} {c = c} {waiting = waiting} {text = text} {lat
 -- at the exit of a `?`: the writer failed over a block of what waits
 pub block_broken : {S T U : Type 0} {w : Ghosts S} {a b c : S} {x : U} (r : Result T Error) {e : Error}
     {waiting text later all : List ℕ} (rest : List ℕ) → r ≡ Err e → PutsBlocks w a b (Ok x) waiting text
-    → AppendsPrefix (w.taken b) (w.taken c) waiting → w.failed c ≡ true → w.loan c ≡ w.loan b → text ++ rest ≡ all
-    → PutsBlocks w a c r later all
+    → AppendsPrefix (w.taken b) (w.taken c) waiting → (w.failed b ≡ false → w.failed c ≡ true) → w.loan c ≡ w.loan b
+    → text ++ rest ≡ all → PutsBlocks w a c r later all
 block_broken {w = w} {a = a} {b = b} {c = c} r rest is p q failed loan whole = rw is (record {
   ok = tt;
   err = subst (λ (l : List ℕ). AppendsPrefix (w.taken a) (w.taken c) l) whole
       (prefix_before (cut_then (w.taken a) (w.taken b) (w.taken c) p.ok refl q) rest);
   going = tt;
-  cause = λ n. failed;
+  cause = λ n f. failed (p.going f);
   loan = loan ∙ p.loan;
 })
 
@@ -145,7 +146,8 @@ pub no_memory : {S T U : Type 0} {w : Ghosts S} {a b : S} {x : U} (r : Result T 
     → PutsBlocks w a b (Ok x) waiting text → text ++ rest ≡ all → PutsBlocks w a b r later all
 no_memory {w = w} {a = a} {b = b} r rest is kind p whole = rw is (record {
   ok = tt;
-  err = subst (λ (l : List ℕ). AppendsPrefix (w.taken a) (w.taken b) l) whole (front_passed (w.taken a) (w.taken b) rest p.ok);
+  err = subst (λ (l : List ℕ). AppendsPrefix (w.taken a) (w.taken b) l) whole
+      (front_passed (w.taken a) (w.taken b) rest p.ok);
   going = tt;
   cause = λ n. absurd (n kind);
   loan = p.loan;
@@ -155,30 +157,27 @@ no_memory {w = w} {a = a} {b = b} r rest is kind p whole = rw is (record {
 
 -- the rest goes out, and nothing waits
 pub text_out : {S T U : Type 0} {w : Ghosts S} {a b c : S} {x : U} (r : Result T Error) {waiting text all : List ℕ}
-    → PutsBlocks w a b (Ok x) waiting text → all ≡ waiting → OnOk r (Appends (w.taken b) (w.taken c) all)
-    → OnErr r (AppendsPrefix (w.taken b) (w.taken c) all) → w.failed c ≡ is_err r → w.loan c ≡ w.loan b
-    → PutsText w a c r text
-text_out {w = w} {a = a} {b = b} {c = c} (Ok y) p e ok err failed loan = record {
-  ok = whole_then (w.taken a) (w.taken b) (w.taken c) p.ok e ok;
+    → PutsBlocks w a b (Ok x) waiting text → all ≡ waiting → Puts w b c r all → PutsText w a c r text
+text_out {w = w} {a = a} {b = b} {c = c} (Ok y) p e q = record {
+  ok = whole_then (w.taken a) (w.taken b) (w.taken c) p.ok e q.takes.grew;
   err = tt;
-  going = failed;
+  going = λ f. q.failed (p.going f);
   cause = tt;
-  loan = loan ∙ p.loan;
+  loan = q.loan ∙ p.loan;
 }
-text_out {w = w} {a = a} {b = b} {c = c} (Err y) p e ok err failed loan = record {
+text_out {w = w} {a = a} {b = b} {c = c} (Err y) p e q = record {
   ok = tt;
-  err = cut_then (w.taken a) (w.taken b) (w.taken c) p.ok e err;
+  err = cut_then (w.taken a) (w.taken b) (w.taken c) p.ok e q.takes;
   going = tt;
-  cause = λ n. failed;
-  loan = loan ∙ p.loan;
+  cause = λ n f. q.failed (p.going f);
+  loan = q.loan ∙ p.loan;
 }
 
 -- a text goes out
-pub text_put : {S T : Type 0} {w : Ghosts S} {a b : S} (r : Result T Error) {text : List ℕ}
-    → OnOk r (Appends (w.taken a) (w.taken b) text) → OnErr r (AppendsPrefix (w.taken a) (w.taken b) text)
-    → w.failed b ≡ is_err r → w.loan b ≡ w.loan a → PutsText w a b r text
-text_put (Ok y) ok err failed loan = record { ok = ok; err = tt; going = failed; cause = tt; loan = loan }
-text_put (Err y) ok err failed loan = record { ok = tt; err = err; going = tt; cause = λ n. failed; loan = loan }
+pub text_put : {S T : Type 0} {w : Ghosts S} {a b : S} (r : Result T Error) {text : List ℕ} → Puts w a b r text
+    → PutsText w a b r text
+text_put (Ok y) p = record { ok = p.takes.grew; err = tt; going = p.failed; cause = tt; loan = p.loan }
+text_put (Err y) p = record { ok = tt; err = p.takes; going = tt; cause = λ n. p.failed; loan = p.loan }
 
 -- a text that breaks off as what waits of it does
 pub text_broken : {S T : Type 0} {w : Ghosts S} {a b : S} (r : Result T Error) {e : Error} {waiting text : List ℕ}
@@ -203,7 +202,7 @@ pub texts_then : {S T U : Type 0} {w : Ghosts S} {a b c : S} {x : U} (r : Result
 texts_then {w = w} {a = a} {b = b} {c = c} (Ok y) {one = one} {other = other} p q = record {
   ok = Appends-trans (w.taken a) (w.taken b) (w.taken c) one other p.ok q.ok;
   err = tt;
-  going = q.going;
+  going = λ f. q.going (p.going f);
   cause = tt;
   loan = q.loan ∙ p.loan;
 }
@@ -211,7 +210,7 @@ texts_then {w = w} {a = a} {b = b} {c = c} (Err y) {one = one} {other = other} p
   ok = tt;
   err = prefix_after (w.taken a) (w.taken b) (w.taken c) one other p.ok q.err;
   going = tt;
-  cause = q.cause;
+  cause = λ n f. q.cause n (p.going f);
   loan = q.loan ∙ p.loan;
 }
 

@@ -48,16 +48,15 @@ all_lines f base es i = append_assoc base (flat_map f (enumerate_from 0 (take i 
 
 -- no line yet
 pub none_placed : {S X : Type 0} {w : Ghosts S} {a : S} (f : ℕ × X → List ℕ) (base : List ℕ) (es : List X)
-    → w.failed a ≡ false
     → PutsBlocks {T = Unit {0}} w a a (Ok tt) base (base ++ flat_map f (enumerate_from 0 (take 0 es)))
-none_placed f base es going = none_out going (sym (append-nil base))
+none_placed f base es = none_out (sym (append-nil base))
 
 -- one line more comes into the buffer, and the buffer's front goes out
 pub placed_out : {S X U : Type 0} {w : Ghosts S} {a b c : S} {x : U} (f : ℕ × X → List ℕ) (base : List ℕ)
     (es : List X) (i : ℕ) (d : X) {old mid new : List ℕ} → i < length es
     → PutsBlocks w a b (Ok x) old (base ++ flat_map f (enumerate_from 0 (take i es)))
-    → mid ≡ old ++ f (i, get_or es i d) → Passes (w.taken b) (w.taken c) new mid → w.failed c ≡ false
-    → w.loan c ≡ w.loan b
+    → mid ≡ old ++ f (i, get_or es i d) → Passes (w.taken b) (w.taken c) new mid
+    → (w.failed b ≡ false → w.failed c ≡ false) → w.loan c ≡ w.loan b
     → PutsBlocks {T = Unit {0}} w a c (Ok tt) new (base ++ flat_map f (enumerate_from 0 (take (i + 1) es)))
 placed_out {w = w} {a = a} {c = c} f base es i d {new = new} lt before line out going loan =
     subst (λ (l : List ℕ). PutsBlocks {T = Unit {0}} w a c (Ok tt) new l) (next_line f base es i d lt)
@@ -95,8 +94,9 @@ no_placed r f base es i is kind before all =
 pub placed_broken : {S X T U : Type 0} {w : Ghosts S} {a b c : S} {x : U} (r : Result T Error) {e : Error}
     (f : ℕ × X → List ℕ) (base : List ℕ) (es : List X) (i : ℕ) (d : X) {old mid later text : List ℕ} → r ≡ Err e
     → i < length es → PutsBlocks w a b (Ok x) old (base ++ flat_map f (enumerate_from 0 (take i es)))
-    → mid ≡ old ++ f (i, get_or es i d) → AppendsPrefix (w.taken b) (w.taken c) mid → w.failed c ≡ true
-    → w.loan c ≡ w.loan b → base ++ flat_map f (enumerate_from 0 es) ≡ text → PutsBlocks w a c r later text
+    → mid ≡ old ++ f (i, get_or es i d) → AppendsPrefix (w.taken b) (w.taken c) mid
+    → (w.failed b ≡ false → w.failed c ≡ true) → w.loan c ≡ w.loan b
+    → base ++ flat_map f (enumerate_from 0 es) ≡ text → PutsBlocks w a c r later text
 placed_broken r f base es i d is lt before line front failed loan all =
     block_broken r (lines_from f (i + 1) es) is (more_waits (f (i, get_or es i d)) before line) front failed loan
     (ap (λ (l : List ℕ). l ++ lines_from f (i + 1) es) (next_line f base es i d lt) ∙ all_lines f base es (i + 1) ∙ all)

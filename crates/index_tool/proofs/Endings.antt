@@ -16,9 +16,9 @@ use Rattle.index_tool.specs.Ending.{reports}
 use Rattle.index_tool.specs.Outcome.{Does, GivesUp, IsTold, IsToldOfDamaged, StoresIndex, damaged, nothing, some_of}
 
 module _ (world : World) (Fault : Failure → Type 0) (what : Reading) (kind : Kind) (path : List ℕ)
-    (failed : Bool) (old new : Option (List ℕ)) where
+    (Failed : Type 0) (old new : Option (List ℕ)) where
   telling_gives_up : (f : Failure)
-      → FailsTelling (IsTold what world kind path) (IsToldOfDamaged what world kind path) Fault path f failed old new
+      → FailsTelling (IsTold what world kind path) (IsToldOfDamaged what world kind path) Fault path f Failed old new
       → GivesUp world (Reads what kind path) old new
   telling_gives_up f (part e is cause h) = some_of what kind path refl h
   telling_gives_up f (whole file offset e is names h) = damaged what kind path offset e refl h
@@ -26,7 +26,7 @@ module _ (world : World) (Fault : Failure → Type 0) (what : Reading) (kind : K
 
   -- a command that tells, where it failed
   pub telling_refused : (r : Result (Unit {0}) Failure)
-      → IfErr r (λ f. FailsTelling (IsTold what world kind path) (IsToldOfDamaged what world kind path) Fault path f failed old new)
+      → IfErr r (λ f. FailsTelling (IsTold what world kind path) (IsToldOfDamaged what world kind path) Fault path f Failed old new)
       → OnErr r (GivesUp world (Reads what kind path) old new)
   telling_refused (Ok x) h = tt
   telling_refused (Err f) h = telling_gives_up f h

@@ -114,7 +114,6 @@ fn tell<'a, D: Folder, W: Out>(
     path: &'a str,
     out: &mut W,
 ) -> Result<(), Failure<'a>>
-    requires unfailed { W.failed out.old ≡ false }
     ensures { TellsOf what D.Folder folder.now kind path.now W.Out out.old out.new result }
 {
     match what {
@@ -156,16 +155,13 @@ fn write<'a, D: Folder>(
 }
 
 /// Prints what the words ask for: Ok where all of it went to `out`.
-fn print<O: Out>(alloc: Global, answer: &Answer, out: &mut O) -> io::Result<()>
-    requires unfailed { O.failed out.old ≡ false }
-{
+fn print<O: Out>(alloc: Global, answer: &Answer, out: &mut O) -> io::Result<()> {
     let text = format!(in alloc; "{answer}")?;
     out.put(text.as_bytes())
 }
 
 /// Prints what is said in place of a command, and gives its status.
 fn say<O: Out, E: io::Write>(alloc: Global, answer: &Answer, out: &mut O, faults: &mut E) -> u8
-    requires unfailed { O.failed out.old ≡ false }
     ensures status { result ≤ WRONG_WORDS }
     ensures asked { result ≡ DONE → is_asked_for answer.now ≡ true }
     ensures wrong_words { result ≡ WRONG_WORDS → IsWrong answer.now }
@@ -231,7 +227,6 @@ fn run_command<'a, D: Folder, O: Out>(
     index: &'a Found,
     out: &mut O,
 ) -> Result<Option<Report<'a>>, Failure<'a>>
-    requires unfailed { O.failed out.old ≡ false }
     ensures { Acts command.entry index.now D.Folder folder.old folder.new O.Out out.old out.new
         result }
 {
@@ -253,7 +248,6 @@ fn run_on<D: Folder, O: Out, E: io::Write>(
     out: &mut O,
     faults: &mut E,
 ) -> u8
-    requires unfailed { O.failed out.old ≡ false }
     ensures ends { EndsByStatus command.entry index.now D.Folder folder.old folder.new
         O.Out out.old out.new result }
     ensures no_fault { KeepsFaults (reports_by command.entry) E.contents faults.old faults.new
@@ -315,7 +309,6 @@ pub fn run<D: Console, O: Out, E: io::Write>(
     out: &mut O,
     faults: &mut E,
 ) -> u8
-    requires unfailed { O.failed out.old ≡ false }
     ensures ends { EndsRun around.now words.now D.Folder folder.old folder.new
         O.Out out.old out.new result }
     ensures no_fault { KeepsFaults (reports_in words.now) E.contents faults.old faults.new result }

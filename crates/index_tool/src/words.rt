@@ -1,6 +1,6 @@
 //! The words that the program is called with, what stands around it, and the status that it ends with.
 
-ghost use Rattle.std.specs.Prelude.{◌≡◌, ◌≢◌, ◌↔◌, false};
+ghost use Rattle.std.specs.Prelude.{◌≡◌, ◌≢◌, ◌↔◌};
 ghost use Rattle.std.specs.Process.{exit_status};
 ghost use Rattle.index_tool.specs.Calls.{EndsCall};
 
@@ -87,7 +87,6 @@ pub fn answer<D: Console, O: Out, E: io::Write>(
     out: &mut O,
     faults: &mut E,
 ) -> ExitCode
-    requires unfailed { O.failed out.old ≡ false }
     ensures { EndsCall call D.Folder folder.old folder.new O.Out out.old out.new (exit_status
         result) }
 {

@@ -8,11 +8,11 @@ use Rattle.std.specs.declared.cmp.Ordering.TheVariants.{Less}
 use Rattle.std.specs.declared.ops.Range.{Range}
 use Rattle.std.proofs.lemmas.Bool.{false≢true}
 use Rattle.std.proofs.lemmas.Bool.Decides.{Decides-eqb}
-use Rattle.std.proofs.lemmas.List.Elements.{All-filter, All-weaker, Contains-get_or, filter_more}
+use Rattle.std.proofs.lemmas.List.Elements.{All-weaker, Contains-get_or, filter_more}
 use Rattle.std.proofs.lemmas.List.Kept.{AllPairs-filter}
 use Rattle.std.proofs.lemmas.Slice.Eq.{starts_is}
 use Rattle.index_entries.specs.Order.{IsOrderedByPath, IsStrictlyOrdered, record_cmp}
-use Rattle.index_entries.specs.Record.{IsPlaced, Record, record_in, records_in}
+use Rattle.index_entries.specs.Record.{Record, record_in, records_in}
 use Rattle.index_parts.specs.declared.hash.Kind.{Kind}
 use Rattle.index_parts.specs.declared.hash.ObjectId.{ObjectId}
 use Rattle.index_cached_tree.specs.Tree.{Node}
@@ -113,16 +113,6 @@ whole_list storage es h = merged_list storage es es (sym (all_merged es h))
 pub empty_list : (storage : List ℕ) (es : List Entry) → list_any (λ e. is_unmerged e.flags.0) es ≡ false
     → [] ≡ unmerged_in (records_in storage es)
 empty_list storage es h = unmerged_list storage es [] (sym (none_unmerged es h))
-
-pub merged_placed : (len : ℕ) (es copies : List Entry) → All (IsPlaced len) es → copies ≡ merged_entries es
-    → All (IsPlaced len) copies
-merged_placed len es copies h e =
-    subst (All (IsPlaced len)) (sym e) (All-filter (λ e. not (is_unmerged e.flags.0)) (IsPlaced len) es h)
-
-pub unmerged_placed : (len : ℕ) (es copies : List Entry) → All (IsPlaced len) es → copies ≡ unmerged_entries es
-    → All (IsPlaced len) copies
-unmerged_placed len es copies h e =
-    subst (All (IsPlaced len)) (sym e) (All-filter (λ e. is_unmerged e.flags.0) (IsPlaced len) es h)
 
 -- ---- what is said of both lists
 

@@ -6,7 +6,7 @@ ghost use Rattle.std.specs.Cmp.Lexicographic.{slice_cmp};
 ghost use Rattle.std.specs.Option.{option_map};
 ghost use Rattle.std.specs.Ordering.{nat_cmp};
 ghost use Rattle.index_entries.specs.Order.{IsOrderedByPath, IsStrictlyOrdered};
-ghost use Rattle.index_entries.specs.Record.{IsPlaced, Record, records_in};
+ghost use Rattle.index_entries.specs.Record.{Record, records_in};
 ghost use Rattle.index_parts.specs.declared.hash.Kind.{Kind};
 ghost use Rattle.index_parts.specs.declared.hash.ObjectId.{ObjectId};
 ghost use Rattle.index_cached_tree.specs.Tree.{name_of, node_of};
@@ -288,8 +288,7 @@ pub fn verify_tree_ids(
     backing: &[u8],
     tree: &Tree,
 ) -> Result<(), Error>
-    requires placed { All (IsPlaced (length backing.now)) entries.now }
-    requires ordered { IsStrictlyOrdered (records_in backing.now entries.now) }
+    requires { IsStrictlyOrdered (records_in backing.now entries.now) }
     ensures right { IfOk result
         (λ _. AreRight kind (records_in backing.now entries.now) (node_of tree.now)) }
     ensures fit { IfOk result

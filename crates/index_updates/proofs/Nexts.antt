@@ -2,9 +2,9 @@
 use Rattle.std.proofs.Common.{◌≡◌, ◌≢◌, ℕ, ◌+◌, ◌-◌, ◌<◌, arith, get_or, length, Bool, true, false, ◌&&◌, ◌||◌, ◌==◌, not, List, [], ◌∷◌, ◌++◌, All, take, drop}
 use Rattle.std.proofs.Common.{Option, refl, sym, ap, ◌∙◌, subst, append-nil, append_assoc}
 use Rattle.std.proofs.lemmas.List.{drop-map, get_or_default, map-append, take-append-drop, take_more}
-use Rattle.std.proofs.lemmas.List.Elements.{All-weaker}
+use Rattle.std.proofs.lemmas.List.Elements.{All-append, All-take, All-weaker}
 use Rattle.index_entries.specs.Order.{IsOrderedByPath, IsStrictlyOrdered, record_stage}
-use Rattle.index_entries.specs.Record.{Record, record_in, records_in, with_path}
+use Rattle.index_entries.specs.Record.{IsPlaced, Record, record_in, records_in, with_path}
 use Rattle.index_entries.specs.declared.Entry.{Entry}
 use Rattle.index_lookups.proofs.Lookup.{ordered_by_path}
 use Rattle.index_lookups.specs.Closest.{is_below}
@@ -47,6 +47,11 @@ beyond_lost (Stage entry path) r b =
     (not (has_key path.now (stage_number entry.flags.0) r))
     (beyond_at new.path r b) (beyond_below new.path r b) (beyond_above new.path r b new refl)
 beyond_lost (Unstage path) r b = not_there (not (record_stage r == 0)) (is_at path.now r) (beyond_at path.now r b)
+
+pub mid_placed : (len : ℕ) (done rest mid : List Entry) (k : ℕ) → mid ≡ done ++ take k rest → All (IsPlaced len) done
+    → All (IsPlaced len) rest → All (IsPlaced len) mid
+mid_placed len done rest mid k passes here behind = subst (All (IsPlaced len)) (sym passes)
+    (All-append (IsPlaced len) done (take k rest) here (All-take (IsPlaced len) k rest behind))
 
 module _ (c : Change) (s : List ℕ) (done rest mid : List Entry) (k : ℕ) (passes : mid ≡ done ++ take k rest)
     (beyond : IsOrderedByPath (records_in s rest) → All (IsBeyond (path_of c)) (drop k (records_in s rest)))

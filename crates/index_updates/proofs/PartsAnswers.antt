@@ -20,14 +20,15 @@ use Rattle.index_updates.proofs.StorableChanges.{changes_stay, stage_stays, unst
 module _ (refusal : Check) (old new : Parts) where
   pub applies : (cs : List Change) → refusal_of refusal old.object_hash (length (parts_storage old)) cs ≡ None
       → UpdatesParts cs old new
-      → (IsStrictlyOrdered (parts_records old) → IsAppliedTo cs (parts_records old) (parts_records new))
-      → PartsInStorage new → AppliesParts refusal cs old new (Ok tt)
+      → (PartsInStorage old → IsStrictlyOrdered (parts_records old)
+      → IsAppliedTo cs (parts_records old) (parts_records new))
+      → (PartsInStorage old → PartsInStorage new) → AppliesParts refusal cs old new (Ok tt)
   applies cs reason updated applied placed = record {
     reason = reason;
     updated = updated;
     applied = applied;
-    storable = λ o s. changes_stay (parts_contents old) (parts_contents new) refusal (length (parts_storage old)) cs reason s
-        (updated o);
+    storable = λ here o s. changes_stay (parts_contents old) (parts_contents new) refusal (length (parts_storage old)) cs
+        reason s (updated here o);
     placed = placed;
     err = tt;
   }
@@ -35,15 +36,17 @@ module _ (refusal : Check) (old new : Parts) where
   module _ (entry : Pathless) (path : Bor (List ℕ)) (told : Displaced) where
     pub stages : fault_of refusal old.object_hash entry path.now ≡ None → IsSized (with_path path.now entry)
         → UpdatesParts (Stage entry path ∷ []) old new
-        → (IsStrictlyOrdered (parts_records old)
+        → (PartsInStorage old → IsStrictlyOrdered (parts_records old)
         → IsStagedInto (with_path path.now entry) (parts_records old) (parts_records new))
-        → (IsStrictlyOrdered (parts_records old) → IsToldOf (with_path path.now entry) (parts_records old) told)
-        → PartsInStorage new → StagesParts refusal entry path old new (Ok told)
+        → (PartsInStorage old → IsStrictlyOrdered (parts_records old)
+        → IsToldOf (with_path path.now entry) (parts_records old) told)
+        → (PartsInStorage old → PartsInStorage new) → StagesParts refusal entry path old new (Ok told)
     stages reason sized updated staged tells placed = record {
       reason = reason;
       updated = updated;
       staged = staged;
-      storable = λ o. stage_stays (parts_contents old) (parts_contents new) refusal entry path reason sized (updated o);
+      storable = λ here o.
+          stage_stays (parts_contents old) (parts_contents new) refusal entry path reason sized (updated here o);
       told = tells;
       placed = placed;
       err = tt;
@@ -51,17 +54,17 @@ module _ (refusal : Check) (old new : Parts) where
 
     pub resolves : fault_of refusal old.object_hash (merged entry) path.now ≡ None
         → IsSized (with_path path.now (merged entry)) → UpdatesParts (Stage (merged entry) path ∷ []) old new
-        → (IsStrictlyOrdered (parts_records old)
+        → (PartsInStorage old → IsStrictlyOrdered (parts_records old)
         → IsResolvedInto (with_path path.now (merged entry)) (parts_records old) (parts_records new))
-        → (IsStrictlyOrdered (parts_records old)
+        → (PartsInStorage old → IsStrictlyOrdered (parts_records old)
         → IsToldOf (with_path path.now (merged entry)) (parts_records old) told)
-        → PartsInStorage new → ResolvesParts refusal entry path old new (Ok told)
+        → (PartsInStorage old → PartsInStorage new) → ResolvesParts refusal entry path old new (Ok told)
     resolves reason sized updated resolved tells placed = record {
       reason = reason;
       updated = updated;
       resolved = resolved;
-      storable = λ o.
-          stage_stays (parts_contents old) (parts_contents new) refusal (merged entry) path reason sized (updated o);
+      storable = λ here o.
+          stage_stays (parts_contents old) (parts_contents new) refusal (merged entry) path reason sized (updated here o);
       told = tells;
       placed = placed;
       err = tt;
@@ -71,11 +74,12 @@ module _ {E : Type 0} (old new : Parts) (path : Bor (List ℕ)) (count : ℕ) wh
   pub unstages : UpdatesParts (Unstage path ∷ []) old new
       → (IsStrictlyOrdered (parts_records old) → IsUnstagedFrom path.now (parts_records old) (parts_records new))
       → (IsStrictlyOrdered (parts_records old) → count ≡ count_by (is_at path.now) (parts_records old))
-      → parts_storage new ≡ parts_storage old → PartsInStorage new → UnstagesParts {E = E} path old new (Ok count)
+      → parts_storage new ≡ parts_storage old → (PartsInStorage old → PartsInStorage new)
+      → UnstagesParts {E = E} path old new (Ok count)
   unstages updated unstaged counted storage placed = record {
     updated = updated;
     unstaged = unstaged;
-    storable = λ o. unstage_stays (parts_contents old) (parts_contents new) path (updated o);
+    storable = λ here o. unstage_stays (parts_contents old) (parts_contents new) path (updated here o);
     count = counted;
     storage = storage;
     placed = placed;

@@ -1,5 +1,6 @@
 -- What each call that changes the parts of an index in memory answers, and what it leaves (the library's own). All but the
--- reasons and the places is promised over records that strictly increase.
+-- reasons and the places is promised over records that strictly increase, and what the parts stand for then over paths
+-- that lie in their storage.
 use Rattle.std.specs.Prelude.{◌≡◌, ℕ, List, [], ◌∷◌, All, count_by, None, Result, IfOk, OnErr, OnOk}
 use Rattle.std.specs.Borrow.{Bor}
 use Rattle.index_edits.specs.Changes.{IsAppliedTo}
@@ -34,26 +35,27 @@ with_kept kept e = record e {
   fs_monitor = kept.monitor;
 }
 
--- where the records strictly increase, what the parts stand for is `updated` by the changes
+-- where the paths lie in their storage, and the records strictly increase, what the parts stand for is `updated` by the
+-- changes
 abbrev pub UpdatesParts : List Change → Parts → Parts → Type 0
 UpdatesParts cs old new =
-    IsStrictlyOrdered (parts_records old) → parts_contents new ≡ updated cs (parts_contents old)
+    PartsInStorage old → IsStrictlyOrdered (parts_records old) → parts_contents new ≡ updated cs (parts_contents old)
 
--- where the records strictly increase, and a file of any version can hold what the parts stand for, one still can
+-- where that is so, and a file of any version can hold what the parts stand for, one still can
 abbrev pub KeepsPartsStorable : Parts → Parts → Type 0
 KeepsPartsStorable old new =
-    IsStrictlyOrdered (parts_records old) → StaysStorable (parts_contents old) (parts_contents new)
+    PartsInStorage old → IsStrictlyOrdered (parts_records old) → StaysStorable (parts_contents old) (parts_contents new)
 
 -- the changes are made, or refused at the first that is at fault
 pub record AppliesParts (refusal : Check) (cs : List Change) (old new : Parts) (r : Result (Unit {0}) ApplyError)
     : Type 0 where
   pub reason : SaysFirstRefused refusal old.object_hash cs old.path_backing r
   pub updated : OnOk r (UpdatesParts cs old new)
-  pub applied : OnOk r (IsStrictlyOrdered (parts_records old)
+  pub applied : OnOk r (PartsInStorage old → IsStrictlyOrdered (parts_records old)
       → IsAppliedTo cs (parts_records old) (parts_records new))
-  pub storable : OnOk r (IsStrictlyOrdered (parts_records old) → All StagesSized cs
+  pub storable : OnOk r (PartsInStorage old → IsStrictlyOrdered (parts_records old) → All StagesSized cs
       → StaysStorable (parts_contents old) (parts_contents new))
-  pub placed : PartsInStorage new
+  pub placed : PartsInStorage old → PartsInStorage new
   pub err : OnErr r (AreUnchanged old new)
 
 -- an entry is staged at a path
@@ -61,12 +63,12 @@ pub record StagesParts (refusal : Check) (entry : Pathless) (path : Bor (List �
     (r : Result Displaced Error) : Type 0 where
   pub reason : SaysWhy refusal old.object_hash entry path.now old.path_backing r
   pub updated : OnOk r (UpdatesParts (Stage entry path ∷ []) old new)
-  pub staged : OnOk r (IsStrictlyOrdered (parts_records old)
+  pub staged : OnOk r (PartsInStorage old → IsStrictlyOrdered (parts_records old)
       → IsStagedInto (with_path path.now entry) (parts_records old) (parts_records new))
   pub storable : OnOk r (KeepsPartsStorable old new)
-  pub told : IfOk r (λ told. IsStrictlyOrdered (parts_records old)
+  pub told : IfOk r (λ told. PartsInStorage old → IsStrictlyOrdered (parts_records old)
       → IsToldOf (with_path path.now entry) (parts_records old) told)
-  pub placed : PartsInStorage new
+  pub placed : PartsInStorage old → PartsInStorage new
   pub err : OnErr r (AreUnchanged old new)
 
 -- a merged entry is put in place of all stages of a path
@@ -74,12 +76,12 @@ pub record ResolvesParts (refusal : Check) (entry : Pathless) (path : Bor (List 
     (r : Result Displaced Error) : Type 0 where
   pub reason : SaysWhy refusal old.object_hash (merged entry) path.now old.path_backing r
   pub updated : OnOk r (UpdatesParts (Stage (merged entry) path ∷ []) old new)
-  pub resolved : OnOk r (IsStrictlyOrdered (parts_records old)
+  pub resolved : OnOk r (PartsInStorage old → IsStrictlyOrdered (parts_records old)
       → IsResolvedInto (with_path path.now (merged entry)) (parts_records old) (parts_records new))
   pub storable : OnOk r (KeepsPartsStorable old new)
-  pub told : IfOk r (λ told. IsStrictlyOrdered (parts_records old)
+  pub told : IfOk r (λ told. PartsInStorage old → IsStrictlyOrdered (parts_records old)
       → IsToldOf (with_path path.now (merged entry)) (parts_records old) told)
-  pub placed : PartsInStorage new
+  pub placed : PartsInStorage old → PartsInStorage new
   pub err : OnErr r (AreUnchanged old new)
 
 -- the entries at a path are taken out, and it is told how many there were
@@ -91,5 +93,5 @@ pub record UnstagesParts {E : Type 0} (path : Bor (List ℕ)) (old new : Parts) 
   pub count : IfOk r (λ count. IsStrictlyOrdered (parts_records old)
       → count ≡ count_by (is_at path.now) (parts_records old))
   pub storage : parts_storage new ≡ parts_storage old
-  pub placed : PartsInStorage new
+  pub placed : PartsInStorage old → PartsInStorage new
   pub err : OnErr r (AreUnchanged old new)

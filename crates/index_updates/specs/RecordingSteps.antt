@@ -1,22 +1,21 @@
 -- A side of a conflict among the paths that are recorded, and those that a change takes out (the library's own). Public
 -- clauses cite none of these.
 use Rattle.std.specs.Prelude.{◌≡◌, ◌≢◌, ℕ, ◌<◌, ◌≤◌, true, false, List, [], All, length, map, take, MatchOption, Option}
-use Rattle.std.specs.Prelude.{Some}
+use Rattle.std.specs.Prelude.{IfSome}
 use Rattle.std.specs.Global.{Vec}
 use Rattle.std.specs.List.{HoldsAt}
-use Rattle.std.specs.Option.{unwrap_or}
 use Rattle.std.specs.Ordering.{is_lt}
 use Rattle.std.specs.declared.ops.Range.{Range}
 use Rattle.index_entries.specs.Order.{IsStrictlyOrdered, path_cmp}
 use Rattle.index_entries.specs.Record.{Record}
 use Rattle.index_entries.specs.declared.Entry.{Entry}
 use Rattle.index_entries.specs.declared.Pathless.{Pathless}
-use Rattle.index_lookups.specs.Range.{part_of}
+use Rattle.index_lookups.specs.Range.{LiesWithin, part_of}
 use Rattle.index_edits.specs.EditSteps.{has_odds, record_at}
 use Rattle.index_edits.specs.declared.change.Change.{Change}
 use Rattle.index_small_extensions.specs.ResolveUndo.{PathStages, path_stages}
 use Rattle.index_small_extensions.specs.declared.resolve_undo.ResolvePath.{ResolvePath}
-use Rattle.index_updates.specs.Recorded.{no_sides, recorded, with_side}
+use Rattle.index_updates.specs.Recorded.{recorded, with_side}
 use Rattle.index_updates.specs.Undone.{all_recorded, lost, undo_paths}
 
 -- the recorded paths in memory
@@ -49,17 +48,9 @@ module _ {X : Type 0} (f : X → PathStages) (path : List ℕ) where
 abbrev pub PutsSide : Entry → ResolvePath → ResolvePath → Type 0
 PutsSide e old now = path_stages now ≡ with_side (record_at (path_stages old).name e) (path_stages old)
 
--- it is the one side of the path
-abbrev pub IsOneSided : List ℕ → Entry → ResolvePath → Type 0
-IsOneSided path e made = path_stages made ≡ with_side (record_at path e) (no_sides path)
-
 -- it is recorded among these paths
 abbrev pub RecordsSide : List ℕ → Entry → Paths → Paths → Type 0
 RecordsSide path e old now = map path_stages now.items ≡ recorded (record_at path e) (map path_stages old.items)
-
--- the same, where maybe no path is recorded yet
-abbrev pub RecordsAmong : List ℕ → Entry → Option Paths → Option Paths → Type 0
-RecordsAmong path e old now = undo_paths now ≡ Some (recorded (record_at path e) (unwrap_or (undo_paths old) []))
 
 -- ---- what a change takes out
 
@@ -81,3 +72,13 @@ abbrev pub IsWholeIfOdd : List ℕ → Pathless → List Record → Option (Rang
 IsWholeIfOdd path entry rs places =
     IsStrictlyOrdered rs → MatchOption places (has_odds path entry rs ≡ false)
     (λ p. (p.start ≡ 0) × (p.end ≡ length rs))
+
+-- places of the list, or none, that are these
+pub record FindsOdd (path : List ℕ) (entry : Pathless) (rs : List Record) (places : Option (Range ℕ)) : Type 0 where
+  pub all : IsWholeIfOdd path entry rs places
+  pub inside : IfSome places (LiesWithin rs)
+
+-- places of the list, or none, among which all have theirs that go where the change is made
+pub record FindsLost (c : Change) (rs : List Record) (places : Option (Range ℕ)) : Type 0 where
+  pub all : HasLost c rs places
+  pub inside : IfSome places (LiesWithin rs)

@@ -9,11 +9,12 @@ use Rattle.index_entries.specs.declared.Entry.{Entry}
 use Rattle.index_entries.specs.declared.Pathless.{Pathless}
 use Rattle.index_edits.specs.Changes.{IsAppliedTo, applied}
 use Rattle.index_edits.specs.ClearSteps.{IsClearFor}
-use Rattle.index_edits.specs.EntryEdits.{ChangesOrdered, CountsAt, Entries, Storage, TellsOf}
+use Rattle.index_edits.specs.EntryEdits.{ChangesOrdered, ChangesPlaced, CountsAt, Entries, StayInStorage, Storage, TellsOf}
 use Rattle.index_edits.specs.declared.change.Change.{Change}
 use Rattle.index_edits.specs.declared.change.Change.TheVariants.{Stage, Unstage}
 use Rattle.index_small_extensions.specs.declared.fs_monitor.FsMonitor.{FsMonitor}
 use Rattle.index_updates.specs.EntryUpdates.{IsWatchedAfter}
+use Rattle.index_updates.specs.Invalidated.{CountsNoMore, InvalidatesAll, UnlistsAll}
 use Rattle.index_updates.specs.RecordingSteps.{AddsAllLost, Paths}
 use Rattle.index_updates.specs.Undone.{undo_paths, undone}
 use Rattle.index_updates.specs.declared.kept.Kept.{Kept}
@@ -41,20 +42,32 @@ pub record TellsCut (path : Bor (List ℕ)) (s : Storage) (es : Entries) (before
   pub count : CountsAt path.now s.items es made.count
   pub monitor : IsWatchedAfter (Unstage path ∷ []) s.items es.items before made.monitor
 
+-- what is kept once changes are made: resolve-undo and what a monitor says are these, and the tree and the untracked cache
+-- lack what the changes make untrue
+pub record Renews (cs : List Change) (recorded_then : Option Paths) (told : Option FsMonitor) (old now : Kept) : Type 0
+  where
+    pub tree : InvalidatesAll cs old.tree now.tree
+    pub counts : CountsNoMore old.tree now.tree
+    pub undo : now.undo ≡ recorded_then
+    pub monitor : now.monitor ≡ told
+    pub untracked : UnlistsAll cs old.untracked now.untracked
+
 -- ---- several changes
 
 -- so many bytes at the front of the path of the change at a place are clear once those before it are made
 abbrev pub IsKnownAt : List Change → ℕ → ℕ → Type 0
 IsKnownAt cs place known = HoldsAt (λ c. (rs : List Record) → IsClearFor known c (applied (take place cs) rs)) cs place
 
--- A change is made of the entries that are done and the rest behind them, of which so many are done then, where so many
--- bytes of its path are clear. Each path lies in the storage, which has more at its end.
+-- A change is made of the entries that are done and the rest behind them, of which so many are done then, where all their
+-- paths lie in the storage, and so many bytes of the change's path are clear. The storage has more at its end.
 pub record AppliesNext {E : Type 0} (known : ℕ) (c : Change) (rest : List Entry) (s : Storage) (es : Entries)
     (t : Storage) (ds : Entries) (r : Result ℕ E) : Type 0 where
   pub inside : IfOk r (λ count. count ≤ length rest)
-  pub applied : IfOk r (λ count. ChangesOrdered (λ old now. IsClearFor known c old → IsAppliedTo (c ∷ []) old now)
-      s.items (es.items ++ rest) t.items (ds.items ++ drop count rest))
-  pub placed : OnOk r (All (IsPlaced (length t.items)) ds.items)
+  pub applied : IfOk r (λ count. All (IsPlaced (length s.items)) es.items → All (IsPlaced (length s.items)) rest
+      → ChangesOrdered (λ old now. IsClearFor known c old → IsAppliedTo (c ∷ []) old now) s.items (es.items ++ rest)
+      t.items (ds.items ++ drop count rest))
+  pub placed : OnOk r (All (IsPlaced (length s.items)) es.items → All (IsPlaced (length s.items)) rest
+      → All (IsPlaced (length t.items)) ds.items)
   pub storage : (more : List ℕ) × (t.items ≡ s.items ++ more)
 
 -- what it takes out of these is recorded
@@ -65,9 +78,9 @@ RecordsNext c rest s es old now r = OnOk r (AddsAllLost c (records_in s.items (e
 -- the entries and what is recorded after the changes
 pub record AreUpdated (cs : List Change) (s t : Storage) (es : List Entry) (undo : Option Paths) (made : Entries)
     (recorded_then : Option Paths) : Type 0 where
-  pub applied : ChangesOrdered (IsAppliedTo cs) s.items es t.items made.items
-  pub undone : IsUndoneAfter cs s.items es undo recorded_then
-  pub placed : All (IsPlaced (length t.items)) made.items
+  pub applied : ChangesPlaced (IsAppliedTo cs) s.items es t.items made.items
+  pub undone : All (IsPlaced (length s.items)) es → IsUndoneAfter cs s.items es undo recorded_then
+  pub placed : StayInStorage s.items es t.items made.items
 
 -- so they are given, and the storage has more at its end
 pub record UpdatesEntries {E : Type 0} (cs : List Change) (s t : Storage) (es : List Entry) (undo : Option Paths)

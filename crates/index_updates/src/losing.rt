@@ -1,11 +1,10 @@
 //! Sides of conflicts that a change takes out, and recording them.
 
-ghost use Rattle.std.specs.Prelude.{◌≡◌, ◌≢◌, ◌∷◌, [], IfSome, OnOk};
-ghost use Rattle.index_entries.specs.Order.{record_stage};
+ghost use Rattle.std.specs.Prelude.{◌≡◌, ◌∷◌, [], OnOk};
 ghost use Rattle.index_lookups.specs.Range.{LiesWithin, part_at};
 ghost use Rattle.index_edits.specs.EditSteps.{record_at};
 ghost use Rattle.index_updates.specs.Undone.{is_lost};
-ghost use Rattle.index_updates.specs.RecordingSteps.{AddsAllLost, AddsLost, HasLost, IsWholeIfOdd, RecordsAmong};
+ghost use Rattle.index_updates.specs.RecordingSteps.{AddsAllLost, AddsLost, FindsLost, FindsOdd};
 
 use crate::recording::record_side;
 use index_edits::change::Change;
@@ -36,8 +35,7 @@ fn is_lost(change: &Change<'_>, entry: &Entry, path: &[u8]) -> bool
 
 /// All places, where an entry is a file where the new one needs a folder, or the other way round; else None.
 fn odd_places(entries: &EntrySlice<'_>, entry: Pathless, path: &[u8]) -> Option<Range<usize>>
-    ensures all { IsWholeIfOdd path.now entry entries.now result }
-    ensures inside { IfSome result (LiesWithin entries.now) }
+    ensures { FindsOdd path.now entry entries.now result }
 {
     if has_odds(entries, entry, path, 0) {
         return Some(0..entries.len());
@@ -47,8 +45,7 @@ fn odd_places(entries: &EntrySlice<'_>, entry: Pathless, path: &[u8]) -> Option<
 
 /// Places among which all sides that go have theirs, or None where none goes.
 fn lost_places(entries: &EntrySlice<'_>, change: &Change<'_>) -> Option<Range<usize>>
-    ensures all { HasLost change.now entries.now result }
-    ensures inside { IfSome result (LiesWithin entries.now) }
+    ensures { FindsLost change.now entries.now result }
 {
     match change {
         Change::Stage { entry, path } => {
@@ -61,26 +58,8 @@ fn lost_places(entries: &EntrySlice<'_>, change: &Change<'_>) -> Option<Range<us
     }
 }
 
-/// Records a side: among the paths that there are, or as the first. An error is want of memory.
-fn record_among(
-    undo: &mut Option<Paths>,
-    alloc: Global,
-    path: &[u8],
-    entry: &Entry,
-) -> Result<(), AllocError>
-    requires { record_stage (record_at path.now entry.now) ≢ 0 }
-    ensures { OnOk result (RecordsAmong path.now entry.now undo.old undo.new) }
-{
-    if let Some(paths) = undo {
-        return record_side(paths, path, entry);
-    }
-    let mut paths = Vec::new(alloc);
-    record_side(&mut paths, path, entry)?;
-    *undo = Some(paths);
-    Ok(())
-}
-
-/// Records the entry if it is a side that goes. An error is want of memory.
+/// Records the entry if it is a side that goes: among the paths that there are, or as the first. An error is want of
+/// memory.
 #[tactic(auto, unfolding(crate::specs::Undone::all_recorded))]
 fn record_if_lost(
     undo: &mut Option<Paths>,
@@ -92,9 +71,15 @@ fn record_if_lost(
     ensures { OnOk result (AddsLost change.now (record_at path.now entry.now ∷ []) undo.old
         undo.new) }
 {
-    if is_lost(change, entry, path) {
-        record_among(undo, alloc, path, entry)?;
+    if !is_lost(change, entry, path) {
+        return Ok(());
     }
+    if let Some(paths) = undo {
+        return record_side(paths, path, entry);
+    }
+    let mut paths = Vec::new(alloc);
+    record_side(&mut paths, path, entry)?;
+    *undo = Some(paths);
     Ok(())
 }
 

@@ -1,7 +1,6 @@
 //! Changes of the parts of an index in memory, with what speaks of its entries.
 
 ghost use Rattle.std.specs.Prelude.{◌≡◌};
-ghost use Rattle.index_format.specs.Contents.{PartsInStorage};
 ghost use Rattle.index_updates.specs.PartsUpdates.{AppliesParts, ResolvesParts, StagesParts, UnstagesParts};
 ghost use Rattle.index_updates.specs.PartsUpdates.{with_kept, without_kept};
 
@@ -50,7 +49,6 @@ pub fn apply<C: ComponentCheck>(
     check: &C,
     changes: &[Change<'_>],
 ) -> Result<(), ApplyError>
-    requires { PartsInStorage parts.old }
     ensures { AppliesParts (C.refusal check.now) changes.now parts.old parts.new result }
 {
     let mut kept = take_kept(&mut parts.extensions);
@@ -76,7 +74,6 @@ pub fn stage<C: ComponentCheck>(
     entry: Pathless,
     path: &[u8],
 ) -> Result<Displaced, Error>
-    requires { PartsInStorage parts.old }
     ensures { StagesParts (C.refusal check.now) entry path.entry parts.old parts.new result }
 {
     let mut kept = take_kept(&mut parts.extensions);
@@ -102,7 +99,6 @@ pub fn resolve<C: ComponentCheck>(
     entry: Pathless,
     path: &[u8],
 ) -> Result<Displaced, Error>
-    requires { PartsInStorage parts.old }
     ensures { ResolvesParts (C.refusal check.now) entry path.entry parts.old parts.new result }
 {
     let mut kept = take_kept(&mut parts.extensions);
@@ -124,7 +120,6 @@ pub fn resolve<C: ComponentCheck>(
 /// `updated` by this one change, and where a file of any version could hold it, one still can. An error is want of
 /// memory, and leaves the parts as they were.
 pub fn unstage(parts: &mut Parts, path: &[u8]) -> Result<usize, AllocError>
-    requires { PartsInStorage parts.old }
     ensures { UnstagesParts path.entry parts.old parts.new result }
 {
     let mut kept = take_kept(&mut parts.extensions);

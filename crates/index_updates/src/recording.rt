@@ -1,16 +1,16 @@
 //! Recording a side of a conflict that goes (gitformat-index, "Resolve undo").
 
-ghost use Rattle.std.specs.Prelude.{◌≡◌, ◌≢◌, IfOk, IsFalse, IsTrue, OnOk};
+ghost use Rattle.std.specs.Prelude.{◌≡◌, ◌≢◌, IsFalse, IsTrue, OnOk};
 ghost use Rattle.std.specs.Ordering.{is_lt};
 ghost use Rattle.index_entries.specs.Order.{path_cmp, record_stage};
 ghost use Rattle.index_small_extensions.specs.ResolveUndo.{path_stages};
 ghost use Rattle.index_edits.specs.EditSteps.{record_at};
-ghost use Rattle.index_updates.specs.RecordingSteps.{IsHere, IsOneSided, IsOther, IsPlaceFor, PutsSide, RecordsSide};
+ghost use Rattle.index_updates.specs.RecordingSteps.{IsHere, IsOther, IsPlaceFor, PutsSide, RecordsSide};
 
 use bitflags::Flags as _;
 use index_entries::Entry;
 use index_small_extensions::resolve_undo::{Paths, ResolvePath, Stage};
-use std::alloc::{AllocError, Global};
+use std::alloc::AllocError;
 
 /// Whether a recorded path stands before this one.
 fn stands_before(recorded: &ResolvePath, path: &[u8]) -> bool
@@ -47,16 +47,6 @@ fn put_side(path: &mut ResolvePath, entry: &Entry)
     path.set_side((entry.stage_raw() - 1) as usize, side);
 }
 
-/// A path with the entry as its one side.
-fn one_sided(alloc: Global, path: &[u8], entry: &Entry) -> Result<ResolvePath, AllocError>
-    requires { record_stage (record_at path.now entry.now) ≢ 0 }
-    ensures { IfOk result (IsOneSided path.now entry.now) }
-{
-    let mut made = ResolvePath::new(alloc, path)?;
-    put_side(&mut made, entry);
-    Ok(made)
-}
-
 /// Records an entry, which is a side of a conflict, at its path: in place of what was recorded of its stage, or as the
 /// one side of a path that is put in behind those below it. An error is want of memory.
 pub(crate) fn record_side(paths: &mut Paths, path: &[u8], entry: &Entry) -> Result<(), AllocError>
@@ -68,7 +58,8 @@ pub(crate) fn record_side(paths: &mut Paths, path: &[u8], entry: &Entry) -> Resu
         put_side(&mut paths[place], entry);
         return Ok(());
     }
-    let made = one_sided(*paths.allocator(), path, entry)?;
+    let mut made = ResolvePath::new(*paths.allocator(), path)?;
+    put_side(&mut made, entry);
     paths.insert(place, made)?;
     Ok(())
 }

@@ -1,7 +1,6 @@
 //! Making one change of an index, with what speaks of its entries.
 
-ghost use Rattle.std.specs.Prelude.{◌≡◌, ◌∷◌, [], All, IfOk, length};
-ghost use Rattle.index_entries.specs.Record.{IsPlaced};
+ghost use Rattle.std.specs.Prelude.{◌≡◌, ◌∷◌, [], IfOk};
 ghost use Rattle.index_edits.specs.Edits.{merged};
 ghost use Rattle.index_edits.specs.EntryEdits.{SaysWhy, StagesEntry};
 ghost use Rattle.index_edits.specs.declared.change.Change.TheVariants.{Stage, Unstage};
@@ -31,7 +30,6 @@ fn undo_after(
     undo: &Option<Paths>,
     change: &Change<'_>,
 ) -> Result<Option<Paths>, AllocError>
-    requires { All (IsPlaced (length storage.now.items)) entries.now }
     ensures { IfOk result (IsUndoneAfter (change.now ∷ []) storage.now.items entries.now undo.now) }
 {
     let mut undo = copy_of(undo)?;
@@ -69,7 +67,6 @@ fn settle_watched(
     entry: Pathless,
     path: &[u8],
 ) -> Result<Settled, AllocError>
-    requires placed { All (IsPlaced (length storage.old.items)) entries.old.items }
     ensures staged { StagesEntry entry path.now storage.old entries.old storage.new entries.new
         result }
     ensures settled { IfOk result (TellsSettled entry path.entry storage.old entries.old
@@ -111,7 +108,6 @@ fn cut_watched(
     monitor: &Option<FsMonitor>,
     path: &[u8],
 ) -> Result<Cut, AllocError>
-    requires placed { All (IsPlaced (length storage.now.items)) entries.old.items }
     ensures taken { TakesPath path.now storage.now entries.old entries.new result }
     ensures told { IfOk result (TellsCut path.entry storage.now entries.old monitor.now) }
 {
@@ -138,8 +134,8 @@ fn cut_watched(
 ///
 /// The entries, the storage, what is told and what is refused are as [`stage`](index_edits::stage::stage) has them, and
 /// what is kept is as [`update`](crate::update::update) leaves it after this one change. An error leaves all as it was.
-/// Over entries that don't strictly increase nothing more is said. Resolve-undo is copied once, and so are the entries
-/// where a monitor told of them.
+/// Over entries that don't strictly increase, or with a path outside of the storage, nothing more is said. Resolve-undo is
+/// copied once, and so are the entries where a monitor told of them.
 pub fn stage<C: ComponentCheck>(
     entries: &mut Vec<Entry>,
     storage: &mut PathStorage,
@@ -149,7 +145,6 @@ pub fn stage<C: ComponentCheck>(
     entry: Pathless,
     path: &[u8],
 ) -> Result<Displaced, Error>
-    requires placed { All (IsPlaced (length storage.old.items)) entries.old.items }
     ensures reason { SaysWhy (C.refusal check.now) kind entry path.now storage.old result }
     ensures made { StagesOne entry path.entry storage.old entries.old storage.new entries.new
         result }
@@ -175,7 +170,6 @@ pub fn resolve<C: ComponentCheck>(
     entry: Pathless,
     path: &[u8],
 ) -> Result<Displaced, Error>
-    requires placed { All (IsPlaced (length storage.old.items)) entries.old.items }
     ensures reason { SaysWhy (C.refusal check.now) kind (merged entry) path.now storage.old result }
     ensures made { ResolvesOne entry path.entry storage.old entries.old storage.new entries.new
         result }
@@ -197,7 +191,6 @@ pub fn unstage(
     kept: &mut Kept,
     path: &[u8],
 ) -> Result<usize, AllocError>
-    requires placed { All (IsPlaced (length storage.now.items)) entries.old.items }
     ensures made { UnstagesOne path.entry storage.now entries.old entries.new result }
     ensures kept { KeepsOne (Unstage path.entry) storage.now entries.old kept.old kept.new result }
 {

@@ -1,12 +1,11 @@
 //! Making several changes of an index, all or none, with what speaks of its entries.
 
-ghost use Rattle.std.specs.Prelude.{◌≡◌, ◌<◌, All, IfOk, OnOk, length};
-ghost use Rattle.index_entries.specs.Record.{IsPlaced};
+ghost use Rattle.std.specs.Prelude.{◌≡◌, ◌<◌, IfOk, OnOk, length};
 ghost use Rattle.index_edits.specs.EntryEdits.{AppliesAll, SaysFirstRefused};
 ghost use Rattle.index_updates.specs.EntryUpdates.{KeepsAll};
 ghost use Rattle.index_updates.specs.Invalidated.{CountsNoMore, InvalidatesAll, UnlistsAll};
 ghost use Rattle.index_updates.specs.Undone.{undo_paths};
-ghost use Rattle.index_updates.specs.UpdateSteps.{AppliesNext, IsKnownAt, RecordsNext, UpdatesEntries};
+ghost use Rattle.index_updates.specs.UpdateSteps.{AppliesNext, IsKnownAt, RecordsNext, Renews, UpdatesEntries};
 ghost use Rattle.index_updates.specs.UpdateSteps.{UpdatesWatched};
 
 use crate::invalidating::{invalidate_all, unlist_all};
@@ -35,8 +34,6 @@ fn update_next(
     change: &Change<'_>,
     known: usize,
 ) -> Result<usize, AllocError>
-    requires placed { All (IsPlaced (length storage.old.items)) done.old.items }
-    requires rest_placed { All (IsPlaced (length storage.old.items)) rest.now }
     ensures applied { AppliesNext known change.now rest.now storage.old done.old storage.new
         done.new
         result }
@@ -71,11 +68,7 @@ pub(crate) fn renew(
     monitor: Option<FsMonitor>,
     changes: &[Change<'_>],
 )
-    ensures tree { InvalidatesAll changes.now kept.old.tree kept.new.tree }
-    ensures counts { CountsNoMore kept.old.tree kept.new.tree }
-    ensures undo { kept.new.undo ≡ undo }
-    ensures monitor { kept.new.monitor ≡ monitor }
-    ensures untracked { UnlistsAll changes.now kept.old.untracked kept.new.untracked }
+    ensures { Renews changes.now undo monitor kept.old kept.new }
 {
     kept.undo = undo;
     kept.monitor = monitor;
@@ -108,7 +101,6 @@ fn update_each(
     undo: &Option<Paths>,
     changes: &[Change<'_>],
 ) -> Result<Updated, AllocError>
-    requires placed { All (IsPlaced (length storage.old.items)) entries.now }
     ensures { UpdatesEntries changes.now storage.old storage.new entries.now undo.now result }
 {
     let mut undo = copy_of(undo)?;
@@ -135,7 +127,6 @@ fn update_all(
     undo: &Option<Paths>,
     changes: &[Change<'_>],
 ) -> Result<Updated, AllocError>
-    requires placed { All (IsPlaced (length storage.old.items)) entries.now }
     ensures { UpdatesEntries changes.now storage.old storage.new entries.now undo.now result }
 {
     match in_order(*storage.allocator(), changes)? {
@@ -158,7 +149,6 @@ fn update_watched(
     kept: &Kept,
     changes: &[Change<'_>],
 ) -> Result<Watched, AllocError>
-    requires placed { All (IsPlaced (length storage.old.items)) entries.now }
     ensures { UpdatesWatched changes.now storage.old storage.new entries.now kept.now result }
 {
     let Updated {
@@ -193,8 +183,8 @@ fn update_watched(
 /// `entries` and `storage` are those of an index whose ids are of the kind. All changes are checked first: the first
 /// that is refused is told with its place, and a want of memory without one. An error leaves the entries, the storage
 /// and what is kept as they were. Each path that is staged asks for room of its own, even where an entry has it or
-/// another change displaces it. Over entries that don't strictly increase nothing more is said of the entries and of
-/// resolve-undo.
+/// another change displaces it. Over entries that don't strictly increase, or with a path outside of the storage, nothing
+/// more is said of the entries and of resolve-undo.
 ///
 /// The entries are copied once, into one list, and resolve-undo once. m changes to n entries take time as n + m log m,
 /// in whatever order they are given: each looks for its place behind that of the one before it, by steps that double,
@@ -210,7 +200,6 @@ pub fn update<C: ComponentCheck>(
     kind: Kind,
     changes: &[Change<'_>],
 ) -> Result<(), ApplyError>
-    requires placed { All (IsPlaced (length storage.old.items)) entries.old.items }
     ensures reason { SaysFirstRefused (C.refusal check.now) kind changes.now storage.old result }
     ensures applied { AppliesAll changes.now storage.old entries.old storage.new entries.new
         result }

@@ -20,25 +20,32 @@ use Rattle.index_format.specs.declared.write.Options.{Options}
 use Rattle.index_format.specs.Image.{asks_for, body, chosen, entries_bytes, entries_end, has_marker, image_version}
 use Rattle.index_format.specs.Image.{is_kept, items_of, marker_of, unmarked}
 use Rattle.index_format.specs.Contents.{Contents}
-use Rattle.index_writing.specs.Layout.{header_and_entries, IsLayout, wants_marker}
+use Rattle.index_writing.specs.Layout.{IsLayout, wants_marker}
+
+abbrev header_and_entries : Contents → Options → List ℕ
+header_and_entries v options =
+    header_bytes (image_version v options) (length (written v.records)) ++ entries_bytes v options
 
 unmarked_parts : (h es x : List ℕ) → h ++ (es ++ x) ≡ (h ++ es) ++ x
 unmarked_parts h es x = sym (append_assoc h es x)
 
-pub unmarked_is : (v : Contents) (options : Options)
+unmarked_is : (v : Contents) (options : Options)
     → unmarked v options ≡ header_and_entries v options ++ flat_map item_bytes (items_of v options)
 unfolding unmarked
 unmarked_is v options = unmarked_parts (header_bytes (image_version v options) (length (written v.records)))
     (entries_bytes v options) (flat_map item_bytes (items_of v options))
 
--- the parts that are written make up the body
-pub body_is : (v : Contents) (options : Options) → header_and_entries v options
-    ++ (flat_map item_bytes (items_of v options) ++ flat_map item_bytes (marker_of v options)) ≡ body v options
+-- the pieces that are written make up the body
+pub body_pieces : (v : Contents) (options : Options) → header_bytes (image_version v options) (length (written v.records))
+    ++ (entries_bytes v options ++ (flat_map item_bytes (items_of v options) ++ flat_map item_bytes (marker_of v options)))
+    ≡ body v options
 unfolding body
-body_is v options =
+body_pieces v options =
+    let h = header_bytes (image_version v options) (length (written v.records)) in
+    let es = entries_bytes v options in
+    let x = flat_map item_bytes (items_of v options) in
     let m = flat_map item_bytes (marker_of v options) in
-    sym (ap (λ (u : List ℕ). u ++ m) (unmarked_is v options)
-    ∙ append_assoc (header_and_entries v options) (flat_map item_bytes (items_of v options)) m)
+    sym (ap (λ (u : List ℕ). u ++ m) (unmarked_is v options) ∙ append_assoc (h ++ es) x m ∙ append_assoc h es (x ++ m))
 
 -- ---- how many bytes they have
 

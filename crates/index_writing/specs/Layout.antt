@@ -1,17 +1,12 @@
 -- Where the parts of a file stand that is written (gitformat-index, as a whole). Public clauses cite none of these.
-use Rattle.std.specs.Prelude.{◌≡◌, ℕ, ◌<◌, ◌^◌, ◌==◌, ◌&&◌, not, Bool, List, ◌++◌, codes, length}
-use Rattle.index_entries.specs.EntryImage.{header_bytes, written}
+use Rattle.std.specs.Prelude.{◌≡◌, ℕ, ◌<◌, ◌^◌, ◌==◌, ◌&&◌, not, Bool, codes, length}
+use Rattle.index_entries.specs.EntryImage.{written}
 use Rattle.index_entries.specs.declared.Version.{Version}
 use Rattle.index_extension_list.specs.Listing.{AreLens}
 use Rattle.index_extension_list.specs.declared.lens.Lens.{Lens}
 use Rattle.index_format.specs.Contents.{Contents}
-use Rattle.index_format.specs.Image.{asks_for, chosen, entries_bytes, entries_end, image_version, unmarked}
+use Rattle.index_format.specs.Image.{asks_for, chosen, entries_end, image_version, unmarked}
 use Rattle.index_format.specs.declared.write.Options.{Options}
-
--- the header and the entries
-abbrev pub header_and_entries : Contents → Options → List ℕ
-header_and_entries v options =
-    header_bytes (image_version v options) (length (written v.records)) ++ entries_bytes v options
 
 -- an end marker is asked for, and there are entries
 abbrev pub wants_marker : Contents → Options → Bool

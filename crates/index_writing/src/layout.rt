@@ -1,8 +1,8 @@
 //! Where the parts of a file stand, before any of it is written.
 
-ghost use Rattle.std.specs.Prelude.{◌≡◌, ◌≤◌, ◌<◌, ◌^◌, length, IfSome, IfNone};
+ghost use Rattle.std.specs.Prelude.{◌≤◌, ◌<◌, ◌^◌, length, IfSome, IfNone};
 ghost use Rattle.index_format.specs.Image.{unmarked};
-ghost use Rattle.index_format.specs.Contents.{PartsInStorage, parts_contents};
+ghost use Rattle.index_format.specs.Contents.{parts_contents};
 ghost use Rattle.index_writing.specs.Layout.{IsLayout};
 
 use crate::chosen::chosen_of;
@@ -22,7 +22,6 @@ pub(super) struct Layout {
 
 /// Where the parts stand; None where all that stands before the end marker takes more bytes than 32 bits can count.
 pub(super) fn layout_of(parts: &Parts, options: Options) -> Option<Layout>
-    requires placed { PartsInStorage parts.now }
     requires few { length (parts_contents parts.now).records < 2 ^ 32 }
     ensures some { IfSome result
         (λ l. IsLayout l.entries.version l.entries.count l.entries.end l.lens

@@ -2,63 +2,53 @@
 #![tactic(auto)]
 
 mod chosen;
-mod items;
 mod layout;
+mod marker;
 pub mod storable;
 
-ghost use Rattle.std.specs.Prelude.{◌≡◌, ◌<◌, ◌↔◌, false, IfOk, IsTrue, OnOk};
+ghost use Rattle.std.specs.Prelude.{◌≡◌, ◌<◌, ◌↔◌, IfOk, IsTrue, OnOk};
 ghost use Rattle.index_parts.specs.Taking.{Hashes};
 ghost use Rattle.index_parts.specs.Puts.{Puts};
 ghost use Rattle.index_format.specs.Image.{image_version, body};
-ghost use Rattle.index_format.specs.Contents.{PartsInStorage, parts_contents};
+ghost use Rattle.index_format.specs.Contents.{parts_contents};
 ghost use Rattle.index_format.specs.Storable.{CanEncode, IsWritable};
 ghost use Rattle.index_format.specs.Writing.{RefusedWith, Writes};
-ghost use Rattle.index_writing.specs.Layout.{header_and_entries, IsLayout};
+ghost use Rattle.index_writing.specs.Layout.{IsLayout};
 
+use chosen::chosen_of;
 use index_entries::paths::paths_without_nul;
 use index_entries::{Version, write};
+use index_extension_list::items::put_items;
+use index_extension_list::marker::put_marker;
 use index_format::Parts;
 use index_format::write::{Error, Options, VersionChoice};
 use index_parts::hash::io::Out;
-use items::put_extensions;
 use layout::{Layout, layout_of};
+use marker::has_marker;
 use std::io;
-
-/// Writes the header and the entries.
-fn put_header_and_entries<W: Out>(
-    parts: &Parts,
-    layout: Layout,
-    out: &mut W,
-    options: Options,
-) -> io::Result<()>
-    requires layout { IsLayout layout.entries.version layout.entries.count layout.entries.end
-        layout.lens (parts_contents parts.now) options }
-    requires placed { PartsInStorage parts.now }
-    requires unfailed { W.failed out.old ≡ false }
-    ensures { Puts W.Out out.old out.new result
-        (header_and_entries (parts_contents parts.now) options) }
-{
-    out.put(&write::header(layout.entries.version, layout.entries.count))?;
-    let version = layout.entries.version;
-    write::put_entries(version, &parts.entries, &parts.path_backing, out)
-}
 
 /// Writes all but the trailer.
 fn put_body<W: Out>(parts: &Parts, layout: Layout, out: &mut W, options: Options) -> io::Result<()>
     requires layout { IsLayout layout.entries.version layout.entries.count layout.entries.end
         layout.lens (parts_contents parts.now) options }
-    requires placed { PartsInStorage parts.now }
-    requires unfailed { W.failed out.old ≡ false }
     ensures { Puts W.Out out.old out.new result
         (body (parts_contents parts.now) options) }
 {
-    put_header_and_entries(parts, layout, out, options)?;
-    put_extensions(parts, layout, out, options)
+    let entries = layout.entries;
+    let lens = layout.lens;
+    let list = chosen_of(parts, options, entries.count);
+    let version = entries.version;
+    out.put(&write::header(version, entries.count))?;
+    write::put_entries(version, &parts.entries, &parts.path_backing, out)?;
+    put_items(list, parts.object_hash, lens, out)?;
+    if has_marker(parts, list, lens, options) {
+        return put_marker(lens, list.is_sparse, parts.object_hash, entries.end, out);
+    }
+    Ok(())
 }
 
 /// Whether a file of the chosen version has all paths that would be written.
 fn can_encode(parts: &Parts, choice: VersionChoice) -> bool
-    requires { PartsInStorage parts.now }
     ensures { IsTrue result ↔ CanEncode choice (parts_contents parts.now) }
 {
     match choice {
@@ -73,8 +63,6 @@ fn can_encode(parts: &Parts, choice: VersionChoice) -> bool
 /// the writer as it was. [`Error::Io`] comes only where the writer failed, which then took a prefix of the bytes.
 /// No memory is taken.
 pub fn write_to<W: Out>(parts: &Parts, out: &mut W, options: Options) -> Result<Version, Error>
-    requires placed { PartsInStorage parts.now }
-    requires unfailed { W.failed out.old ≡ false }
     ensures version { IfOk result
         (λ version. version ≡ image_version (parts_contents parts.now) options) }
     ensures bytes { Writes W.taken W.failed out.old out.new result

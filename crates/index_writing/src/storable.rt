@@ -4,7 +4,7 @@ ghost use Rattle.std.specs.Prelude.{◌≡◌, ◌↔◌, All, IfSome, IsTrue, l
 ghost use Rattle.std.specs.Option.{option_map};
 ghost use Rattle.index_cached_tree.specs.StoredTree.{IsStorableTree};
 ghost use Rattle.index_cached_tree.specs.Tree.{node_of};
-ghost use Rattle.index_entries.specs.Record.{IsPlaced, records_in, with_path};
+ghost use Rattle.index_entries.specs.Record.{records_in, with_path};
 ghost use Rattle.index_entries.specs.Storable.{IsPlain, IsStorableIn};
 ghost use Rattle.index_extension_writing.specs.ResolveUndoImage.{AreSpellablePaths, IsSpellablePath, IsSpellableStage};
 ghost use Rattle.index_format.specs.Outcome.{outcome_of};
@@ -39,7 +39,6 @@ fn is_storable(entry: Pathless, path: &[u8], object_hash: Kind) -> bool
 ///
 /// No memory is taken. Time goes with the entries and the bytes of long paths.
 pub fn are_storable(entries: &[Entry], storage: PathStorageRef<'_>, object_hash: Kind) -> bool
-    requires placed { All (IsPlaced (length storage.now)) entries.now }
     ensures { IsTrue result
         ↔ All (IsStorableIn object_hash) (records_in storage.now entries.now) }
 {

@@ -1,7 +1,5 @@
 //! The rows about edits: entries that are sorted, taken out and verified.
 
-ghost use Rattle.gix_index.specs.State.{PathsInStorage};
-
 use gix_index::entry::{Flags, Mode, Stage, Stat};
 use gix_index::hash::Kind;
 use gix_index::verify::entries::Error;
@@ -26,9 +24,6 @@ pub fn edits(out: &mut Lines, kind: Kind, words: &mut Words<'_>) -> Result<(), F
 /// What one edit answers, a name and behind `=` what it takes.
 fn edit(out: &mut Lines, state: &mut State, word: &str) -> Result<(), Fault> {
     let (name, taken) = word.split_once('=').unwrap_or((word, ""));
-    if !state.paths_in_storage() {
-        return Err(Fault::Wrong("an edit of a list with its paths in the storage"));
-    }
     match name {
         "verify" => {
             verify(out, word, state);
@@ -50,9 +45,7 @@ fn edit(out: &mut Lines, state: &mut State, word: &str) -> Result<(), Fault> {
         _ => return Err(Fault::Wrong("the name of an edit")),
     }
     write!(out, "{word}: ");
-    if state.paths_in_storage() {
-        entries(out, state);
-    }
+    entries(out, state);
     Ok(())
 }
 
@@ -64,9 +57,7 @@ fn done(out: &mut Lines, word: &str, answer: Result<(), AllocError>) {
 }
 
 /// Pushes an entry with this path, a plain file with an id of bytes 11.
-fn push(out: &mut Lines, word: &str, state: &mut State, path: &str) -> Result<(), Fault>
-    requires { PathsInStorage state.old }
-{
+fn push(out: &mut Lines, word: &str, state: &mut State, path: &str) -> Result<(), Fault> {
     let path = text_of(out.alloc(), path)?;
     let id = id_of(out.alloc(), state.object_hash(), "11")?;
     let flags = Flags::from_stage(Stage::Unconflicted);
@@ -83,9 +74,7 @@ fn lend_storage(out: &mut Lines, word: &str, state: &mut State) {
 }
 
 /// Tells which entry is the first that isn't above the one before it.
-fn verify(out: &mut Lines, word: &str, state: &State)
-    requires { PathsInStorage state.now }
-{
+fn verify(out: &mut Lines, word: &str, state: &State) {
     match state.verify_entries() {
         Ok(()) => writeln!(out, "{word}: verify: ordered"),
         Err(
@@ -110,9 +99,7 @@ fn verify(out: &mut Lines, word: &str, state: &State)
 }
 
 /// Takes out the entries at these places, and tells which places the closure sees. It marks each entry with `UPTODATE`.
-fn remove(out: &mut Lines, word: &str, state: &mut State, places: &str)
-    requires { PathsInStorage state.old }
-{
+fn remove(out: &mut Lines, word: &str, state: &mut State, places: &str) {
     let mut seen = Vec::new(out.alloc());
     state.remove_entries(|place, _path, entry| {
         out.note(seen.push(place));
@@ -133,9 +120,7 @@ fn is_among(places: &str, place: usize) -> bool {
 }
 
 /// Gives the entry of a path and a stage, where there is one, the mode of a file that can be run.
-fn make_executable(alloc: Global, state: &mut State, key: &str) -> Result<(), Fault>
-    requires { PathsInStorage state.old }
-{
+fn make_executable(alloc: Global, state: &mut State, key: &str) -> Result<(), Fault> {
     let Some((path, stage)) = key.split_once(':') else {
         return Err(Fault::Wrong("a path and a stage"));
     };

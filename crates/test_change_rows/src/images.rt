@@ -1,7 +1,6 @@
 //! The rows about writing.
 
 ghost use Rattle.std.specs.Prelude.{◌≡◌, IfOk};
-ghost use Rattle.gix_index.specs.State.{PathsInStorage};
 
 use crate::trees::tree_of;
 use gix_index::entry::{FileTime, Flags};
@@ -95,7 +94,7 @@ fn choice_of(word: &str) -> Result<Extensions, Fault> {
 fn rewritten(alloc: Global, kind: Kind, state: State, options: Options) -> Result<State, Fault> {
     let file = File::from_state(state, PathBuf::new(alloc));
     let mut image = Plain::new(Vec::new(alloc));
-    if !file.paths_in_storage() || file.write_to(&mut image, options).is_err() {
+    if file.write_to(&mut image, options).is_err() {
         return Err(Fault::Wrong("a state that can be written"));
     }
     let options = decode::Options::default();
@@ -108,9 +107,6 @@ fn rewritten(alloc: Global, kind: Kind, state: State, options: Options) -> Resul
 /// Tells what is written of the file.
 fn show(out: &mut Lines, file: &File, options: Options) -> Result<(), Fault> {
     let mut image = Plain::new(Vec::new(out.alloc()));
-    if !file.paths_in_storage() {
-        return Err(Fault::Wrong("a state with its paths in the storage"));
-    }
     match file.write_to(&mut image, options) {
         Ok((version, id)) => {
             out.put("version", version_of(version));

@@ -19,9 +19,6 @@ pub fn merge(out: &mut Lines, kind: Kind, words: &mut Words<'_>) -> Result<(), F
     if let Err(e) = link.dissolve_into(alloc, &mut split, shared) {
         refusal::link(out, &e);
     }
-    if !split.paths_in_storage() {
-        return Err(Fault::Wrong("a merge with its paths in the storage"));
-    }
     entries(out, &split);
     Ok(())
 }

@@ -94,7 +94,7 @@ pub fn verify(out: &mut Lines, kind: Kind, words: &mut Words<'_>) -> Result<(), 
     if words.has("tree") {
         state.set_tree(tree_of(kind, words)?);
     }
-    if !state.paths_in_storage() || state.verify_entries().is_err() {
+    if state.verify_entries().is_err() {
         return Err(Fault::Wrong("a state in strict order"));
     }
     match state.verify_tree_ids(out.alloc()) {

@@ -1,7 +1,7 @@
 //! The lookups over entries in any order: the first at a path and at a directory, with case kept and ignored.
 
 ghost use Rattle.std.specs.Prelude.{◌≡◌};
-ghost use Rattle.gix_index.specs.State.{PathsInStorage, records};
+ghost use Rattle.gix_index.specs.State.{records};
 
 use crate::place::{Both, compared, most_compared, place_of, put};
 use gix_index::entry::Stage;
@@ -11,9 +11,7 @@ use test_row_kit::Lines;
 use test_row_kit::show::{OrNone, Text, yes};
 
 /// Tells what they answer for each path.
-pub fn lookups(out: &mut Lines, state: &State, paths: &[Vec<u8>]) -> Result<(), AllocError>
-    requires { PathsInStorage state.now }
-{
+pub fn lookups(out: &mut Lines, state: &State, paths: &[Vec<u8>]) -> Result<(), AllocError> {
     let lookup = state.prepare_icase_backing(out.alloc())?;
     out.put("directories", lookup.directories(false));
     out.put("directories icase", lookup.directories(true));
@@ -21,16 +19,13 @@ pub fn lookups(out: &mut Lines, state: &State, paths: &[Vec<u8>]) -> Result<(), 
     out.put("is_strictly_ordered", yes(is_strictly_ordered(state)));
     unconflicted(out, state);
     for path in paths {
-        search_path(out, state, &lookup, path);
-        search_directory(out, state, &lookup, path);
+        search(out, state, &lookup, path);
     }
     Ok(())
 }
 
 /// The paths of the entries that no merge left.
-fn unconflicted(out: &mut Lines, state: &State)
-    requires { PathsInStorage state.now }
-{
+fn unconflicted(out: &mut Lines, state: &State) {
     write!(out, "entries_with_paths_by_filter_map: [");
     let mut is_first = true;
     for (path, _) in state.entries_with_paths_by_filter_map(|_, entry| {
@@ -50,9 +45,7 @@ fn unconflicted(out: &mut Lines, state: &State)
 }
 
 /// Whether the entries increase by path, then stage.
-pub fn is_strictly_ordered(state: &State) -> bool
-    requires { PathsInStorage state.now }
-{
+pub fn is_strictly_ordered(state: &State) -> bool {
     for (entry, next) in state.entries().iter().zip(state.entries().iter().skip(1)) {
         if entry.cmp(next, state).is_ge() {
             return false;
@@ -61,7 +54,8 @@ pub fn is_strictly_ordered(state: &State) -> bool
     true
 }
 
-fn search_path(out: &mut Lines, state: &State, lookup: &AccelerateLookup<'_>, path: &[u8])
+/// What the searches for an entry and for a directory find.
+fn search(out: &mut Lines, state: &State, lookup: &AccelerateLookup<'_>, path: &[u8])
     requires { lookup.now ≡ records state.now }
 {
     let (kept, count) = state.search_path_icase(path, false, lookup);
@@ -77,11 +71,6 @@ fn search_path(out: &mut Lines, state: &State, lookup: &AccelerateLookup<'_>, pa
     let kept = state.entry_by_path_icase(path, false, lookup);
     let ignored = state.entry_by_path_icase(path, true, lookup);
     entries(out, state, path, "entry_by_path_icase", kept, ignored);
-}
-
-fn search_directory(out: &mut Lines, state: &State, lookup: &AccelerateLookup<'_>, path: &[u8])
-    requires { lookup.now ≡ records state.now }
-{
     let (kept, count) = state.search_directory_icase(path, false, lookup);
     let (ignored, other) = state.search_directory_icase(path, true, lookup);
     let name = "search_directory_icase";

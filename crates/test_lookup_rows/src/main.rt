@@ -11,7 +11,6 @@ mod search;
 mod unordered;
 
 ghost use Rattle.std.specs.Prelude.{◌≡◌};
-ghost use Rattle.gix_index.specs.State.{PathsInStorage};
 
 use gix_index::State;
 use std::process::ExitCode;
@@ -41,9 +40,7 @@ impl Answer for Rows {
 }
 
 /// What the lookups answer for the paths. A new lookup is a line of one of the three modules.
-fn lookup(out: &mut Lines, state: &State, paths: &[Vec<u8>]) -> Result<(), Fault>
-    requires { PathsInStorage state.now }
-{
+fn lookup(out: &mut Lines, state: &State, paths: &[Vec<u8>]) -> Result<(), Fault> {
     icase::lookups(out, state, paths)?;
     if state.is_ordered_by_path() {
         ordered::lookups(out, state, paths)?;

@@ -2,7 +2,7 @@
 
 ghost use Rattle.std.specs.Prelude.{◌≡◌};
 ghost use Rattle.gix_index.specs.Order.{IsOrderedByPath};
-ghost use Rattle.gix_index.specs.State.{PathsInStorage, records};
+ghost use Rattle.gix_index.specs.State.{records};
 
 use crate::icase::is_strictly_ordered;
 use crate::place::{Places, compared, most_compared, place_of, put};
@@ -18,8 +18,7 @@ const STAGES: [Stage; 4] = [Stage::Unconflicted, Stage::Base, Stage::Ours, Stage
 
 /// Tells what they answer for each path.
 pub fn lookups(out: &mut Lines, state: &State, paths: &[Vec<u8>]) -> Result<(), AllocError>
-    requires placed { PathsInStorage state.now }
-    requires ordered { IsOrderedByPath (records state.now) }
+    requires { IsOrderedByPath (records state.now) }
 {
     let table = state.prepare_directory_table(out.alloc())?;
     let all: Vec<&[u8]> = paths
@@ -41,9 +40,7 @@ pub fn lookups(out: &mut Lines, state: &State, paths: &[Vec<u8>]) -> Result<(), 
 }
 
 /// What searches for the path find.
-fn searches(out: &mut Lines, state: &State, table: &DirectoryTable<'_>, path: &[u8])
-    requires placed { PathsInStorage state.now }
-{
+fn searches(out: &mut Lines, state: &State, table: &DirectoryTable<'_>, path: &[u8]) {
     let most = most_compared(state.entries().len());
     let found = search(out, state, path, "search_path", most);
     tell_place(out, state, path, "search_path", found);
@@ -58,18 +55,20 @@ fn search<S: PathSearch>(
     path: &[u8],
     name: &str,
     most: usize,
-) -> Result<usize, usize>
-    requires { S.can_search searcher.now }
-{
+) -> Result<usize, usize> {
     let (found, count) = searcher.search_path(path);
     compared(out, path, name, count, most);
     found
 }
 
 /// Puts the place that was found, where no other entry has the path, or the place that it belongs at.
-fn tell_place(out: &mut Lines, state: &State, path: &[u8], name: &str, found: Result<usize, usize>)
-    requires { PathsInStorage state.now }
-{
+fn tell_place(
+    out: &mut Lines,
+    state: &State,
+    path: &[u8],
+    name: &str,
+    found: Result<usize, usize>,
+) {
     let of_path = match state.entry_range(path) {
         Some(range) => range.len(),
         None => 0,
@@ -94,9 +93,7 @@ fn most_by_table(table: &DirectoryTable<'_>, len: usize, path: &[u8]) -> usize {
 }
 
 /// The ranges and directories that begin with the path.
-fn ranges(out: &mut Lines, state: &State, table: &DirectoryTable<'_>, path: &[u8])
-    requires { PathsInStorage state.now }
-{
+fn ranges(out: &mut Lines, state: &State, table: &DirectoryTable<'_>, path: &[u8]) {
     range(out, path, "directory_table range", table.range(path));
     range(out, path, "entry_range", state.entry_range(path));
     range(
@@ -123,9 +120,7 @@ fn range(out: &mut Lines, path: &[u8], name: &str, range: Option<Range<usize>>) 
 }
 
 /// What searches for the path and each stage find where the order is strict, and the entry at the path.
-fn stages(out: &mut Lines, state: &State, table: &DirectoryTable<'_>, path: &[u8])
-    requires { PathsInStorage state.now }
-{
+fn stages(out: &mut Lines, state: &State, table: &DirectoryTable<'_>, path: &[u8]) {
     let most = most_compared(state.entries().len());
     search_stages(out, state, path, "search_path_and_stage", most);
     let most = most_by_table(table, state.entries().len(), path);
@@ -146,9 +141,7 @@ fn stages(out: &mut Lines, state: &State, table: &DirectoryTable<'_>, path: &[u8
 }
 
 /// The places among the first half of the entries of the path and each stage.
-fn bounded(out: &mut Lines, state: &State, path: &[u8])
-    requires { PathsInStorage state.now }
-{
+fn bounded(out: &mut Lines, state: &State, path: &[u8]) {
     let half = state.entries().len() / 2;
     write!(
         out,
@@ -165,9 +158,13 @@ fn bounded(out: &mut Lines, state: &State, path: &[u8])
     writeln!(out);
 }
 
-fn search_stages<S: PathSearch>(out: &mut Lines, searcher: &S, path: &[u8], name: &str, most: usize)
-    requires { S.can_search searcher.now }
-{
+fn search_stages<S: PathSearch>(
+    out: &mut Lines,
+    searcher: &S,
+    path: &[u8],
+    name: &str,
+    most: usize,
+) {
     let mut greatest = 0;
     write!(out, "{}: {name}:", Text(path));
     for (place, stage) in STAGES.iter().enumerate() {

@@ -1,7 +1,6 @@
 //! One search for a path, how many paths it compares, and the order that it goes by.
 
 ghost use Rattle.std.specs.Prelude.{◌≡◌};
-ghost use Rattle.gix_index.specs.State.{PathsInStorage};
 
 use crate::place::most_compared;
 use gix_index::State;
@@ -10,9 +9,7 @@ use test_row_kit::show::{Item, OrNone, sign_of};
 use test_row_kit::{Fault, Lines, Words};
 
 /// `search`: where the path stands, or the path and the stage.
-pub fn search(out: &mut Lines, state: &State, words: &mut Words<'_>) -> Result<(), Fault>
-    requires { PathsInStorage state.now }
-{
+pub fn search(out: &mut Lines, state: &State, words: &mut Words<'_>) -> Result<(), Fault> {
     let path = words.text()?;
     match words.stage()? {
         Some(stage) => search_stage(out, state, &path, stage),
@@ -26,9 +23,7 @@ pub fn search(out: &mut Lines, state: &State, words: &mut Words<'_>) -> Result<(
     Ok(())
 }
 
-fn search_stage(out: &mut Lines, state: &State, path: &[u8], stage: Stage)
-    requires { PathsInStorage state.now }
-{
+fn search_stage(out: &mut Lines, state: &State, path: &[u8], stage: Stage) {
     let (found, count) = state.search_path_and_stage(path, stage);
     place(out, "search_path_and_stage", found);
     compared(out, "search_path_and_stage", state, count);
@@ -59,9 +54,7 @@ fn compared(out: &mut Lines, name: &str, state: &State, count: usize) {
 }
 
 /// `order`: each entry compared with the next.
-pub fn order(out: &mut Lines, state: &State)
-    requires { PathsInStorage state.now }
-{
+pub fn order(out: &mut Lines, state: &State) {
     let pairs = state.entries().iter().zip(state.entries().iter().skip(1));
     for (place, (entry, next)) in pairs.enumerate() {
         writeln!(out, "cmp {place}: {}", sign_of(entry.cmp(next, state)));

@@ -1,23 +1,17 @@
 //! The lookups over entries whose paths fall somewhere: whether what they give lies among the entries.
 
-ghost use Rattle.gix_index.specs.State.{PathsInStorage};
-
 use crate::place::put;
 use gix_index::State;
 use test_row_kit::Lines;
 
 /// Tells it for each path.
-pub fn lookups(out: &mut Lines, state: &State, paths: &[Vec<u8>])
-    requires { PathsInStorage state.now }
-{
+pub fn lookups(out: &mut Lines, state: &State, paths: &[Vec<u8>]) {
     for path in paths {
         lookup(out, state, path);
     }
 }
 
-fn lookup(out: &mut Lines, state: &State, path: &[u8])
-    requires { PathsInStorage state.now }
-{
+fn lookup(out: &mut Lines, state: &State, path: &[u8]) {
     let len = state.entries().len();
     let is_place = match state.search_path(path).0 {
         Ok(place) => place < len,

@@ -5,7 +5,6 @@ mod entries;
 mod text;
 
 ghost use Rattle.std.specs.Prelude.{◌≡◌, ℕ, false, List, [], ◌∷◌, map, IfNone, IfOk, IfSome, OnErr, OnOk};
-ghost use Rattle.gix_index.specs.State.{PathsInStorage};
 
 use crate::fault::Fault;
 pub use entries::id_of;
@@ -217,28 +216,19 @@ impl<'a> Words<'a> {
     }
 
     /// A new state with the listed entries, pushed in their order.
-    pub fn entries(&mut self, kind: Kind) -> Result<State, Fault>
-        ensures placed { IfOk result (λ state. PathsInStorage state) }
-    {
-        let state = entries::state_of(self.alloc(), kind, self.list()?)?;
-        if !state.paths_in_storage() {
-            return Err(Fault::Wrong("a list whose paths are in the storage"));
-        }
-        Ok(state)
+    pub fn entries(&mut self, kind: Kind) -> Result<State, Fault> {
+        entries::state_of(self.alloc(), kind, self.list()?)
     }
 
     /// The state that the word lists, or that is read of the bytes that it stands for, or the refusal of these.
-    pub fn state(&mut self, kind: Kind) -> Result<Result<State, decode::Error>, Fault>
-        ensures placed { IfOk result (λ read. IfOk read (λ state. PathsInStorage state)) }
-    {
+    pub fn state(&mut self, kind: Kind) -> Result<Result<State, decode::Error>, Fault> {
         if self.left.first().is_some_and(|word| word.starts_with('[')) {
             return Ok(Ok(self.entries(kind)?));
         }
         let bytes = self.bytes()?;
         let options = decode::Options::default();
         match State::from_bytes(self.alloc(), &bytes, FileTime::EPOCH, kind, options) {
-            Ok((state, _)) if state.paths_in_storage() => Ok(Ok(state)),
-            Ok(_) => Err(Fault::Wrong("an index whose paths are in the storage")),
+            Ok((state, _)) => Ok(Ok(state)),
             Err(e) => Ok(Err(e)),
         }
     }

@@ -2,7 +2,7 @@
 
 ghost use Rattle.std.specs.Prelude.{◌≡◌, ◌<◌, false, length};
 ghost use Rattle.gix_index.specs.File.{state_of};
-ghost use Rattle.gix_index.specs.State.{PathsInStorage, entries_of};
+ghost use Rattle.gix_index.specs.State.{entries_of};
 
 use crate::ranges::ranges;
 use gix_index::hash::io::{Out, Plain};
@@ -144,9 +144,7 @@ impl Cuts {
     }
 
     /// Tells what is written of the state.
-    pub fn answer(self, out: &mut Lines, state: State) -> Result<(), AllocError>
-        requires { PathsInStorage state }
-    {
+    pub fn answer(self, out: &mut Lines, state: State) -> Result<(), AllocError> {
         let alloc = out.alloc();
         let file = File::from_state(state, PathBuf::new(alloc));
         self.failure
@@ -154,9 +152,7 @@ impl Cuts {
     }
 
     /// What a writer takes that has room for so many bytes, and the answer.
-    fn written(self, alloc: Global, file: &File, room: usize) -> Written
-        requires { PathsInStorage (state_of file.now) }
-    {
+    fn written(self, alloc: Global, file: &File, room: usize) -> Written {
         let options = Options {
             skip_hash: self.skip_hash,
             version: self.version,
@@ -174,9 +170,7 @@ impl Cuts {
 }
 
 /// Tells what is written of one entry: as versions 2 and 3 have it, and as version 4 does behind the entry before it.
-pub fn entry(out: &mut Lines, state: &State, words: &mut Words<'_>) -> Result<(), Fault>
-    requires { PathsInStorage state.now }
-{
+pub fn entry(out: &mut Lines, state: &State, words: &mut Words<'_>) -> Result<(), Fault> {
     let place: usize = words.number()?;
     if place >= state.entries().len() {
         return Err(Fault::Wrong("the place of an entry"));

@@ -1,7 +1,6 @@
 //! The rows about a whole index: read and written.
 
 ghost use Rattle.std.specs.Prelude.{◌≡◌};
-ghost use Rattle.gix_index.specs.State.{PathsInStorage};
 
 use crate::cuts::Cuts;
 use crate::reading::{Reading, read};
@@ -104,9 +103,12 @@ impl Call {
     }
 
     /// The same of a call about a state.
-    fn answer_state(self, state: State, words: &mut Words<'_>, out: &mut Lines) -> Result<(), Fault>
-        requires { PathsInStorage state }
-    {
+    fn answer_state(
+        self,
+        state: State,
+        words: &mut Words<'_>,
+        out: &mut Lines,
+    ) -> Result<(), Fault> {
         match self {
             Call::Entry => entry(&state, words, out)?,
             Call::Body => body(out, &state),
@@ -127,9 +129,7 @@ fn copy(out: &mut Lines, state: &State) {
     }
 }
 
-fn entry(state: &State, words: &mut Words<'_>, out: &mut Lines) -> Result<(), Fault>
-    requires { PathsInStorage state.now }
-{
+fn entry(state: &State, words: &mut Words<'_>, out: &mut Lines) -> Result<(), Fault> {
     let place: usize = words.number()?;
     if place >= state.entries().len() {
         return Err(Fault::Wrong("the place of an entry"));
@@ -149,9 +149,7 @@ fn entry(state: &State, words: &mut Words<'_>, out: &mut Lines) -> Result<(), Fa
     Ok(())
 }
 
-fn body(out: &mut Lines, state: &State)
-    requires { PathsInStorage state.now }
-{
+fn body(out: &mut Lines, state: &State) {
     let mut image = Plain::new(Vec::new(out.alloc()));
     match state.write_to(&mut image, write::Options::default()) {
         Ok(version) => {
@@ -163,9 +161,7 @@ fn body(out: &mut Lines, state: &State)
     out.put("paths_without_nul", yes(state.paths_without_nul()));
 }
 
-fn file(out: &mut Lines, state: State, skip_hash: bool)
-    requires { PathsInStorage state }
-{
+fn file(out: &mut Lines, state: State, skip_hash: bool) {
     let options = write::Options {
         skip_hash,
         ..write::Options::default()

@@ -78,7 +78,7 @@ fn is_written(shelf: &mut Shelf<'_>, alloc: Global, flags: Flags, options: Optio
     let Ok(mut file) = file_of(alloc, flags) else {
         return false;
     };
-    file.paths_in_storage() && file.write(shelf, alloc, options).is_ok()
+    file.write(shelf, alloc, options).is_ok()
 }
 
 /// Whether the index, which is locked and changed, is committed.
@@ -94,7 +94,7 @@ fn is_committed(shelf: &mut Shelf<'_>, alloc: Global, is_wanted: bool) -> bool {
     for entry in locked.file.entries_mut() {
         entry.flags = NEW;
     }
-    if !is_wanted || !locked.file.paths_in_storage() {
+    if !is_wanted {
         locked.release(shelf);
         return false;
     }

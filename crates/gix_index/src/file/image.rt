@@ -1,8 +1,7 @@
 //! Writing a `File`: the state's bytes, and their digest behind them.
 
 ghost use Rattle.std.specs.Prelude.{◌≡◌, true, false};
-ghost use Rattle.index_state.specs.State.{PathsInStorage, contents};
-ghost use Rattle.gix_index.specs.File.{state_of};
+ghost use Rattle.index_state.specs.State.{contents};
 ghost use Rattle.gix_index.specs.WrittenFile.{PutsBodyTo, PutsFile};
 
 use super::File;
@@ -18,9 +17,7 @@ fn put_hashed<W: Out>(
     out: &mut W,
     options: Options,
 ) -> Result<(Version, ObjectId), Error>
-    requires placed { PathsInStorage state.now }
-    requires unfailed { W.failed out.old ≡ false }
-    requires digest { options.skip_hash ≡ false }
+    requires { options.skip_hash ≡ false }
     ensures { PutsBodyTo W.Out out.old out.new result (contents state.now) options }
 {
     let mut hashing = Write::new(out, state.object_hash());
@@ -38,9 +35,7 @@ fn put_unhashed<W: Out>(
     out: &mut W,
     options: Options,
 ) -> Result<(Version, ObjectId), Error>
-    requires placed { PathsInStorage state.now }
-    requires unfailed { W.failed out.old ≡ false }
-    requires no_digest { options.skip_hash ≡ true }
+    requires { options.skip_hash ≡ true }
     ensures { PutsBodyTo W.Out out.old out.new result (contents state.now) options }
 {
     let version = state.write_to(out, options)?;
@@ -53,8 +48,6 @@ fn put_body<W: Out>(
     out: &mut W,
     options: Options,
 ) -> Result<(Version, ObjectId), Error>
-    requires placed { PathsInStorage state.now }
-    requires unfailed { W.failed out.old ≡ false }
     ensures { PutsBodyTo W.Out out.old out.new result (contents state.now) options }
 {
     if options.skip_hash {
@@ -77,8 +70,6 @@ impl File {
         out: &mut W,
         options: Options,
     ) -> Result<(Version, ObjectId), Error>
-        requires placed { PathsInStorage (state_of self.now) }
-        requires unfailed { W.failed out.old ≡ false }
         ensures { PutsFile W.taken W.failed W.hashed W.loan out.old out.new result
             self.now options }
     {

@@ -5,8 +5,7 @@ ghost use Rattle.std.specs.Prelude.{◌≡◌, [], IfErr, IfOk, None, OnErr, OnO
 ghost use Rattle.index_folder.specs.Locks.{IsReleased, LeadsTo, Restores, asked_of, lock_of, target_of};
 ghost use Rattle.index_folder.specs.World.{Makes};
 ghost use Rattle.index_format.specs.Storable.{IsWritable};
-ghost use Rattle.index_state.specs.State.{PathsInStorage, contents};
-ghost use Rattle.gix_index.specs.File.{state_of};
+ghost use Rattle.index_state.specs.State.{contents};
 ghost use Rattle.gix_index.specs.FileFaults.{SaysOfLocking};
 ghost use Rattle.gix_index.specs.InPlace.{IsPutSince};
 ghost use Rattle.gix_index.specs.File.{IsWholeFile};
@@ -115,7 +114,6 @@ impl File {
         options: Options,
         is_synced: bool,
     ) -> Result<(), write::Error>
-        requires { PathsInStorage (state_of self.old) }
         ensures { SavesFile D.Folder D.Made.contents folder.old folder.new self.old self.new lock
             options result }
     {
@@ -146,7 +144,6 @@ impl<M: Made> Locked<M> {
         options: Options,
         is_synced: bool,
     ) -> Result<File, write::Error>
-        requires { PathsInStorage (state_of self.file) }
         ensures { SavesLocked D.Folder M.contents folder.old folder.new self options result }
     {
         let Locked { mut file, lock } = self;

@@ -6,7 +6,7 @@ ghost use Rattle.std.specs.Io.KnownBytes.{Appends};
 ghost use Rattle.index_folder.specs.Locks.{IsReleased, asked_of, lock_of};
 ghost use Rattle.index_file_faults.specs.WriteFaults.{SaysOfPut};
 ghost use Rattle.index_format.specs.Storable.{IsWritable};
-ghost use Rattle.index_state.specs.State.{PathsInStorage, contents};
+ghost use Rattle.index_state.specs.State.{contents};
 ghost use Rattle.gix_index.specs.File.{path_of, state_of};
 ghost use Rattle.gix_index.specs.InPlace.{IsPutSince, LeavesLock};
 ghost use Rattle.gix_index.specs.WrittenFile.{IsWritten, SaysOfCommittingFile, SaysOfWritingFile, Stores};
@@ -43,7 +43,6 @@ pub(super) fn committed<D: Folder>(
     options: Options,
     is_synced: bool,
 ) -> Result<(PathBuf, Version, ObjectId), Error>
-    requires { PathsInStorage (state_of index.now) }
     ensures { Saves D.Folder D.Made.contents folder.old folder.new index.now lock options result }
 {
     let Lock { place, file } = lock;
@@ -76,7 +75,6 @@ impl File {
         file: W,
         options: Options,
     ) -> Result<Filled<W>, write::Error>
-        requires { PathsInStorage (state_of self.now) }
         ensures version { IfOk result (λ x. x.version ≡ version_of self.now options) }
         ensures id { IfOk result (λ x. x.id ≡ id_of self.now options) }
         ensures bytes { IfOk result
@@ -101,7 +99,6 @@ impl File {
         alloc: Global,
         options: Options,
     ) -> Result<(Version, ObjectId), Error>
-        requires { PathsInStorage (state_of self.now) }
         ensures version { IfOk result (λ x. x.0 ≡ version_of self.now options) }
         ensures id { IfOk result (λ x. x.1 ≡ id_of self.now options) }
         ensures writable { OnOk result (IsWritable (contents (state_of self.now)) options) }
@@ -148,7 +145,6 @@ impl File {
         alloc: Global,
         options: Options,
     ) -> Result<(), Error>
-        requires { PathsInStorage (state_of self.old) }
         ensures ok { OnOk result (IsWritten self.old self.new options) }
         ensures err { OnErr result (self.new ≡ self.old) }
         ensures writable { OnOk result (IsWritable (contents (state_of self.old)) options) }

@@ -14,7 +14,6 @@ use std::io;
 impl Entry {
     /// How many bytes the entry has in version 4, behind this path.
     pub(super) fn delta_len(&self, previous: &[u8], storage: &[u8]) -> u64
-        requires { IsPlaced (length storage.now) self.now }
         ensures len { result ≡ length (delta_bytes previous.now (record_in storage.now self.now)) }
         ensures small { result < 2 ^ 63 + 2 ^ 10 }
     {
@@ -31,8 +30,6 @@ impl Entry {
         storage: &[u8],
         out: &mut W,
     ) -> io::Result<()>
-        requires placed { IsPlaced (length storage.now) self.now }
-        requires unfailed { W.failed out.old ≡ false }
         ensures { Puts W.Out out.old out.new result
             (delta_bytes previous.now (record_in storage.now self.now)) }
     {
@@ -57,8 +54,6 @@ impl Entry {
         state: &S,
         previous: &[u8],
     ) -> io::Result<()>
-        requires placed { IsPlaced (length (S.paths state.now)) self.now }
-        requires unfailed { W.failed out.old ≡ false }
         ensures { Puts W.Out out.old out.new result
             (delta_bytes previous.now (record_in (S.paths state.now) self.now)) }
     {

@@ -69,7 +69,6 @@ impl Entry {
 
     /// The first word of flags: with the path's length, or 0xfff where it is longer than that.
     fn first_word(&self, storage: &[u8]) -> u16
-        requires { IsPlaced (length storage.now) self.now }
         ensures { result ≡ first_word (record_in storage.now self.now) }
     {
         let len = self.path_in(storage).len().min(0xfff) as u16;
@@ -79,7 +78,6 @@ impl Entry {
     /// How many bytes the entry has up to the end of its path.
     #[tactic(auto, using(crate::proofs::Lengths::length_unpadded))]
     pub(super) fn unpadded_len(&self, storage: &[u8]) -> u64
-        requires { IsPlaced (length storage.now) self.now }
         ensures len { result ≡ length (unpadded (record_in storage.now self.now)) }
         ensures small { result < 2 ^ 63 + 2 ^ 9 }
     {
@@ -94,7 +92,6 @@ impl Entry {
 
     /// How many bytes the entry has in a file of version 2 or 3, with its padding.
     fn padded_len(&self, storage: &[u8]) -> u64
-        requires { IsPlaced (length storage.now) self.now }
         ensures len { result ≡ length (entry_bytes (record_in storage.now self.now)) }
         ensures small { result < 2 ^ 63 + 2 ^ 10 }
     {
@@ -104,7 +101,6 @@ impl Entry {
 
     /// How many bytes the entry has in a file of this version, behind this path.
     pub(super) fn written_len(&self, version: Version, previous: &[u8], storage: &[u8]) -> u64
-        requires { IsPlaced (length storage.now) self.now }
         ensures len { result ≡ length
             (entry_in version previous.now (record_in storage.now self.now)) }
         ensures small { result < 2 ^ 63 + 2 ^ 10 }
@@ -118,8 +114,6 @@ impl Entry {
     /// Writes the entry up to its path.
     #[tactic(auto, using(crate::proofs::Lengths::pieces_are))]
     pub(super) fn put_head<W: Out>(&self, storage: &[u8], out: &mut W) -> io::Result<()>
-        requires placed { IsPlaced (length storage.now) self.now }
-        requires unfailed { W.failed out.old ≡ false }
         ensures { Puts W.Out out.old out.new result
             (head_bytes (head_of (record_in storage.now self.now))) }
     {
@@ -134,8 +128,6 @@ impl Entry {
 
     /// Writes the entry up to the end of its path, and these bytes behind it.
     fn put_with<W: Out>(&self, storage: &[u8], end: &[u8], out: &mut W) -> io::Result<()>
-        requires placed { IsPlaced (length storage.now) self.now }
-        requires unfailed { W.failed out.old ≡ false }
         ensures { Puts W.Out out.old out.new result
             (unpadded (record_in storage.now self.now) ++ end.now) }
     {
@@ -145,8 +137,6 @@ impl Entry {
 
     /// Writes the entry as a file of version 2 or 3 has it, with its padding.
     fn put_padded<W: Out>(&self, storage: &[u8], out: &mut W) -> io::Result<()>
-        requires placed { IsPlaced (length storage.now) self.now }
-        requires unfailed { W.failed out.old ≡ false }
         ensures { Puts W.Out out.old out.new result
             (entry_bytes (record_in storage.now self.now)) }
     {
@@ -162,8 +152,6 @@ impl Entry {
         storage: &[u8],
         out: &mut W,
     ) -> io::Result<()>
-        requires placed { IsPlaced (length storage.now) self.now }
-        requires unfailed { W.failed out.old ≡ false }
         ensures { Puts W.Out out.old out.new result
             (entry_in version previous.now (record_in storage.now self.now)) }
     {
@@ -178,8 +166,6 @@ impl Entry {
     ///
     /// An error comes only where the writer failed, which then took a prefix of the bytes. No memory is taken.
     pub fn write_to<W: Out, S: PathBacking>(&self, out: &mut W, state: &S) -> io::Result<()>
-        requires placed { IsPlaced (length (S.paths state.now)) self.now }
-        requires unfailed { W.failed out.old ≡ false }
         ensures { Puts W.Out out.old out.new result
             (unpadded (record_in (S.paths state.now) self.now) ++ 0 ∷ []) }
     {

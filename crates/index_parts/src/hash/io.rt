@@ -83,12 +83,11 @@ pub trait Out {
     ghost loan: { Self → List ℕ } = { λ _. [] };
 
     /// Takes the whole piece. An error took a prefix of it, maybe none or all, and hashed nothing of it; the writer has
-    /// then failed, and no piece can be put after it.
+    /// then failed.
     fn put(&mut self, piece: &[u8]) -> io::Result<()>
-        requires { failed self.old ≡ false }
         ensures bytes { Takes taken hashed self.old self.new result piece.now }
         ensures unhashed { OnErr result (KeepsHashed hashed self.old self.new) }
-        ensures has_failed { failed self.new ≡ is_err result }
+        ensures has_failed { failed self.old ≡ false → failed self.new ≡ is_err result }
         ensures loan { loan self.new ≡ loan self.old };
 
     /// Whether the writer has failed: a piece was not taken whole.
@@ -100,12 +99,11 @@ pub trait Out {
     final fn put_each(&mut self, pieces: &[&[u8]]) -> io::Result<()>
     where
         Self: Sized,
-        requires { failed self.old ≡ false }
         ensures bytes { Takes taken hashed self.old self.new result
             (flat_map (λ p. p.now) pieces.now) }
         ensures failure { OnErr result
             (Breaks taken hashed self.old self.new (map (λ p. p.now) pieces.now)) }
-        ensures has_failed { failed self.new ≡ is_err result }
+        ensures has_failed { failed self.old ≡ false → failed self.new ≡ is_err result }
         ensures loan { loan self.new ≡ loan self.old }
     {
         for piece in pieces {
@@ -205,10 +203,9 @@ impl<W: Out> Out for Write<W> {
 
     /// Takes the whole piece and hashes it. An error leaves the hasher as it was.
     fn put(&mut self, piece: &[u8]) -> io::Result<()>
-        requires { W.failed self.old.inner ≡ false }
         ensures bytes { Takes ⟦<Write<W> as Out>⟧.taken ⟦<Write<W> as Out>⟧.hashed self.old self.new
             result piece.now }
-        ensures has_failed { ⟦<Write<W> as Out>⟧.failed self.new ≡ is_err result }
+        ensures has_failed { W.failed self.old.inner ≡ false → W.failed self.new.inner ≡ is_err result }
         ensures loan { ⟦<Write<W> as Out>⟧.loan self.new ≡ ⟦<Write<W> as Out>⟧.loan self.old }
         ensures unhashed { OnErr result (KeepsHashed ⟦<Write<W> as Out>⟧.hashed self.old self.new) }
         ensures hash { OnErr result (self.new.hash ≡ self.old.hash) }

@@ -10,16 +10,12 @@ use std::alloc::Global;
 
 /// An index in memory into which the shared index of its link can be merged, as [`Link::dissolve_into`] says.
 pub trait SplitIndex: Sized {
-    // What the split index and the shared one must have.
-    ghost can_merge: { Self → Self → Type 0 };
-
     // What becomes of the split index by the link's value and the shared index: its value before, its value after, and
     // the answer.
     ghost dissolves: { LinkValue → Self → Self → Self → Result (Unit {0}) Error → Type 0 };
 
     /// Merges the shared index into this one by the link.
     fn dissolve(&mut self, link: Link, shared: Self) -> Result<(), Error>
-        requires { can_merge self.old shared }
         ensures { dissolves (link_of link) shared self.old self.new result };
 }
 
@@ -43,7 +39,6 @@ impl Link {
         split: &mut S,
         shared: S,
     ) -> Result<(), Error>
-        requires { S.can_merge split.old shared }
         ensures { S.dissolves (link_of self) shared split.old split.new result }
     {
         split.dissolve(self, shared)

@@ -6,7 +6,7 @@ ghost use Rattle.std.specs.Prelude.{◌≡◌, IfSome};
 ghost use Rattle.index_metadata.specs.Flags.{stage_code};
 ghost use Rattle.index_lookups.specs.Lookup.{HasKey, place_of};
 ghost use Rattle.index_state.specs.Edits.{LendsEntries, LendsEntryAt, with_time, with_version};
-ghost use Rattle.index_state.specs.State.{PathsInStorage, contents, entries_of, storage_of};
+ghost use Rattle.index_state.specs.State.{contents, entries_of, storage_of};
 ghost use Rattle.index_state.specs.StateEdits.{Sets};
 ghost use Rattle.index_state.specs.StateSearches.{FindsEntry, IsEntryWith};
 
@@ -40,9 +40,6 @@ impl State {
 
     /// The entries, lent for writing, and beside them the storage of their paths. What was last written through the
     /// slice is what the state has then. The extensions aren't known to fit the entries behind it; all else stays.
-    ///
-    /// `entries[i].path_in(storage)` asks that the path lies in the storage. A loop that writes entries keeps that by
-    /// the invariant `All (IsPlaced (length l.storage)) l.entries`, which is `PathsInStorage` before it and after it.
     pub fn entries_mut_and_pathbacking(&mut self) -> (&mut [Entry], PathStorageRef<'_>)
         ensures* writes_back { sem 𝓛 (LendsEntries self.entry result.0) }
         ensures value { result.0.now ≡ entries_of self.old }
@@ -55,7 +52,6 @@ impl State {
     /// [`entry_by_path_and_stage`](State::entry_by_path_and_stage) finds it. What was last written through it stands in
     /// its place then. The extensions aren't known to fit the entries behind a loan; all else stays.
     pub fn entry_mut_by_path_and_stage(&mut self, path: &[u8], stage: Stage) -> Option<&mut Entry>
-        requires { PathsInStorage self.old }
         ensures* writes_back { sem 𝓛 (LendsEntryAt path.now (stage_code stage) self.entry result) }
         ensures found { IfSome result
             (λ e. IsEntryWith (HasKey path.now (stage_code stage)) self.old e.now) }

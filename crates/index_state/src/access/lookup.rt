@@ -8,16 +8,17 @@ ghost use Rattle.std.specs.Prelude.{true, IfOk, IfSome, IsTrue};
 ghost use Rattle.std.specs.declared.ops.Range.{Range};
 ghost use Rattle.index_metadata.specs.Flags.{stage_code};
 ghost use Rattle.index_lookups.specs.Closest.{closest, stands_in};
-ghost use Rattle.index_lookups.specs.FilterMap.{closure_of, entries_left, storage_left};
+ghost use Rattle.index_lookups.specs.FilterMap.{IsFilterOf};
 ghost use Rattle.index_lookups.specs.Folded.{folded_closest, folded_place};
 ghost use Rattle.index_lookups.specs.Lookup.{IsKeyAt};
 ghost use Rattle.index_entries.specs.Order.{IsOrderedByPath};
-ghost use Rattle.index_lookups.specs.Range.{HasStageOf, IsPart, IsPrefixRange, IsRange, LiesWithin, is_at};
+ghost use Rattle.index_lookups.specs.Range.{FindsRange, HasStageOf, IsPrefixRange, LiesWithin, is_at};
 ghost use Rattle.index_lookups.specs.Range.{place_of_path};
-ghost use Rattle.index_state.specs.State.{PathsInStorage, entries_of, records, storage_of};
+ghost use Rattle.index_lookups.specs.Searches.{IsHalving, SearchesDirectory, SearchesFolded, SearchesKey};
+ghost use Rattle.index_lookups.specs.Searches.{SearchesPath, SearchesPrefix};
+ghost use Rattle.index_state.specs.State.{entries_of, records, storage_of};
 ghost use Rattle.index_state.specs.StateSearches.{FindsClosest, FindsEntry, FindsPart, FindsPlace, FindsPrefixed};
-ghost use Rattle.index_state.specs.StateSearches.{IsEntryWith, SearchesDirectory, SearchesFolded, SearchesKey};
-ghost use Rattle.index_state.specs.StateSearches.{SearchesPath, SearchesPrefix, entry_by};
+ghost use Rattle.index_state.specs.StateSearches.{IsEntryWith, entry_by};
 
 use crate::State;
 use index_entries::Entry;
@@ -36,9 +37,7 @@ impl State {
         &'a self,
         filter_map: F,
     ) -> FilterMapPaths<'a, F>
-        ensures entries { entries_left result ≡ entries_of self.now }
-        ensures storage { storage_left result ≡ storage_of self.now }
-        ensures closure { closure_of result ≡ filter_map }
+        ensures { IsFilterOf (entries_of self.now) (storage_of self.now) filter_map result }
     {
         paths::entries_with_paths_by_filter_map(self.entries(), self.path_backing(), filter_map)
     }
@@ -53,8 +52,7 @@ impl State {
         stage: Stage,
         upper_bound: usize,
     ) -> Option<usize>
-        requires placed { PathsInStorage self.now }
-        requires bound { upper_bound ≤ length (entries_of self.now) }
+        requires { upper_bound ≤ length (entries_of self.now) }
         ensures found { IfSome result
             (IsKeyAt path.now (stage_code stage) (take upper_bound (records self.now))) }
         ensures answer { FindsPlace path.now (stage_code stage)
@@ -68,7 +66,6 @@ impl State {
     /// It is promised over entries that strictly increase by path, then stage. Over other entries an entry that is
     /// given still has that path and one of both stages, and None says nothing.
     pub fn entry_by_path(&self, path: &[u8]) -> Option<&Entry>
-        requires { PathsInStorage self.now }
         ensures found { IfSome result
             (λ e. IsEntryWith (HasStageOf path.now) self.now e.now) }
         ensures answer { FindsEntry (place_of_path path.now) self.now (option_copied result) }
@@ -82,10 +79,8 @@ impl State {
     /// Over entries whose paths never fall they are all such places, and None says that there are none. Over other
     /// entries they are places of the list, and no more is said.
     pub fn entry_range(&self, path: &[u8]) -> Option<Range<usize>>
-        requires { PathsInStorage self.now }
-        ensures in_range { IfSome result (IsPart (records self.now)) }
-        ensures exactly { IsOrderedByPath (records self.now)
-            → IsRange (is_at path.now) (records self.now) result }
+        ensures { FindsRange (is_at path.now) (IsOrderedByPath (records self.now))
+            (records self.now) result }
     {
         range::entry_range(&self.slice(), path)
     }
@@ -93,7 +88,6 @@ impl State {
     /// The entries whose path begins with the bytes of the prefix, or None where there are none, as
     /// [`prefixed_entries_range`](State::prefixed_entries_range) has their places.
     pub fn prefixed_entries(&self, prefix: &[u8]) -> Option<&[Entry]>
-        requires { PathsInStorage self.now }
         ensures in_range { FindsPart (λ range. IfSome range (LiesWithin (entries_of self.now)))
             self.now (option_copied result) }
         ensures exactly { IsOrderedByPath (records self.now)
@@ -110,7 +104,6 @@ impl State {
     ///
     /// Over entries whose paths never fall they are all such places. Over other entries they are places of the list.
     pub fn prefixed_entries_range(&self, prefix: &[u8]) -> Option<Range<usize>>
-        requires { PathsInStorage self.now }
         ensures in_range { IfSome result (LiesWithin (records self.now)) }
         ensures exactly { IsOrderedByPath (records self.now)
             → IsPrefixRange prefix.now (records self.now) result }
@@ -125,7 +118,6 @@ impl State {
     ///
     /// The number is promised over entries whose paths never fall. Over other entries it is at most their number.
     pub fn search_prefix(&self, prefix: &[u8]) -> (usize, usize)
-        requires { PathsInStorage self.now }
         ensures { SearchesPrefix prefix.now (records self.now) result }
     {
         range::search_prefix(&self.slice(), prefix)
@@ -137,7 +129,6 @@ impl State {
     /// It is promised over entries whose paths never fall. Over other entries an entry that is given still is the
     /// directory or stands below it, and None says nothing.
     pub fn entry_closest_to_directory_or_directory(&self, directory: &[u8]) -> Option<&Entry>
-        requires { PathsInStorage self.now }
         ensures found { IfSome result
             (λ e. IsEntryWith (λ r. stands_in directory.now r ≡ true) self.now e.now) }
         ensures answer { FindsClosest directory.now self.now (option_copied result) }
@@ -151,7 +142,6 @@ impl State {
     /// It is promised over entries whose paths never fall. Over other entries the answer true still says that there is
     /// such an entry, and false says nothing.
     pub fn path_is_directory(&self, path: &[u8]) -> bool
-        requires { PathsInStorage self.now }
         ensures found { OnTrue result (list_any (stands_in path.now) (records self.now) ≡ true) }
         ensures answer { IsOrderedByPath (records self.now)
             → result ≡ is_some (closest path.now (records self.now)) }
@@ -162,7 +152,6 @@ impl State {
     /// The table by which the folded lookups find entries of this state. It borrows the state, asks for memory, and
     /// nothing is left of it after a refusal; the lookups by it ask for none.
     pub fn prepare_icase_backing(&self, alloc: Global) -> Result<AccelerateLookup<'_>, AllocError>
-        requires { PathsInStorage self.now }
         ensures { IfOk result (λ lookup. lookup ≡ records self.now) }
     {
         AccelerateLookup::new(alloc, self.entries(), self.path_backing())
@@ -242,7 +231,6 @@ impl State {
 
     /// Whether the paths of the entries never fall. It takes no memory.
     pub fn is_ordered_by_path(&self) -> bool
-        requires { PathsInStorage self.now }
         ensures { IsTrue result ↔ IsOrderedByPath (records self.now) }
     {
         tables::is_ordered_by_path(&self.slice())
@@ -253,8 +241,7 @@ impl State {
     ///
     /// [`is_ordered_by_path`](State::is_ordered_by_path) tells whether it may be made.
     pub fn prepare_directory_table(&self, alloc: Global) -> Result<DirectoryTable<'_>, AllocError>
-        requires placed { PathsInStorage self.now }
-        requires ordered { IsOrderedByPath (records self.now) }
+        requires { IsOrderedByPath (records self.now) }
         ensures { IfOk result (λ table. table ≡ records self.now) }
     {
         DirectoryTable::new(alloc, self.entries(), self.path_backing())
@@ -264,19 +251,13 @@ impl State {
 impl PathSearch for State {
     ghost list = { records };
 
-    ghost can_search = { λ s. PathsInStorage s };
+    ghost compares = { λ s _. IsHalving (length (records s)) };
 
-    fn search_path(&self, path: &[u8]) -> (Result<usize, usize>, usize)
-        requires { PathsInStorage self.now }
-        ensures { SearchesPath path.now (records self.now) result }
-    {
+    fn search_path(&self, path: &[u8]) -> (Result<usize, usize>, usize) {
         State::search_path(self, path)
     }
 
-    fn search_path_and_stage(&self, path: &[u8], stage: Stage) -> (Result<usize, usize>, usize)
-        requires { PathsInStorage self.now }
-        ensures { SearchesKey path.now (stage_code stage) (records self.now) result }
-    {
+    fn search_path_and_stage(&self, path: &[u8], stage: Stage) -> (Result<usize, usize>, usize) {
         State::search_path_and_stage(self, path, stage)
     }
 }

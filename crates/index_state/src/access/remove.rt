@@ -23,15 +23,15 @@ impl State {
         &mut self,
         mut should_remove: F,
     )
-        requires placed { PathsInStorage self.old }
-        requires callable { F.IsAlwaysCallable should_remove }
+        requires { F.IsAlwaysCallable should_remove }
         ensures removed { RemovesFrom (λ f i p e b o g. F.step f i p e b o g) should_remove
             self.old self.new }
         ensures filtered { FiltersBy F.FnMut should_remove self.old self.new }
         ensures filtered_by_place { FiltersByPlace F.FnMut should_remove self.old self.new }
         ensures storage { storage_of self.new ≡ storage_of self.old }
         ensures others { contents self.new ≡ edited (contents self.old) (records self.new) }
-        ensures placed { LeavesPaths F.FnMut should_remove → PathsInStorage self.new }
+        ensures placed { LeavesPaths F.FnMut should_remove
+            → PathsInStorage self.old → PathsInStorage self.new }
         ensures storable { ChangesFlagsAlone F.FnMut should_remove
             → KeepsStorable self.old self.new }
     {

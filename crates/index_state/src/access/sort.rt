@@ -2,7 +2,7 @@
 
 ghost use Rattle.std.specs.Prelude.{◌↔◌, false, IsTrue};
 ghost use Rattle.index_entries.specs.Order.{IsStrictlyOrdered};
-ghost use Rattle.index_state.specs.State.{PathsInStorage, records};
+ghost use Rattle.index_state.specs.State.{records};
 ghost use Rattle.index_state.specs.StateEdits.{Sorts, SortsBy};
 
 use crate::State;
@@ -18,7 +18,6 @@ impl State {
     /// Where they are in order already, they are read twice, nothing moves, and no memory is asked for. After a refusal
     /// of memory the state is as it was.
     pub fn sort_entries(&mut self) -> Result<(), AllocError>
-        requires { PathsInStorage self.old }
         ensures { Sorts self.old self.new result }
     {
         let in_order = self.is_in_order();
@@ -29,7 +28,6 @@ impl State {
 
     /// Whether the entries strictly increase by path, then by stage.
     fn is_in_order(&self) -> bool
-        requires { PathsInStorage self.now }
         ensures { IsTrue result ↔ IsStrictlyOrdered (records self.now) }
     {
         self.slice().first_fall().is_none()
@@ -45,8 +43,7 @@ impl State {
         &mut self,
         compare: F,
     ) -> Result<(), AllocError>
-        requires callable { F.IsAlwaysCallable compare }
-        requires placed { PathsInStorage self.old }
+        requires { F.IsAlwaysCallable compare }
         ensures { SortsBy F.FnMut compare self.old self.new result }
     {
         sort::sort_by(&mut self.parts.entries, &self.parts.path_backing, compare)?;

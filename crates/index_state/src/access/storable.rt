@@ -2,7 +2,7 @@
 
 ghost use Rattle.std.specs.Prelude.{◌↔◌, IsTrue};
 ghost use Rattle.index_format.specs.Storable.{IsStorable};
-ghost use Rattle.index_state.specs.State.{PathsInStorage, contents};
+ghost use Rattle.index_state.specs.State.{contents};
 
 use crate::State;
 use index_writing::storable::{are_extensions_storable, are_storable};
@@ -18,7 +18,6 @@ impl State {
     /// does. No memory is taken. Time goes with the entries and the bytes of their paths, and with the tree, as
     /// `Tree::is_storable` says.
     pub fn is_storable(&self) -> bool
-        requires { PathsInStorage self.now }
         ensures { IsTrue result ↔ IsStorable (contents self.now) }
     {
         let parts = &self.parts;

@@ -11,8 +11,8 @@ impl State {
     /// Takes the storage of paths out, and leaves an empty one, without asking for memory. The entries stay as they
     /// are.
     ///
-    /// Until a storage that has their paths is put in by [`return_path_backing`](State::return_path_backing), calls
-    /// that read paths may not be made where there are entries.
+    /// Until a storage that has their paths is put in by [`return_path_backing`](State::return_path_backing), the paths
+    /// of all entries are empty.
     pub fn take_path_backing(&mut self) -> PathStorage
         ensures given { result.items ≡ storage_of self.old }
         ensures emptied { HasStorage [] self.old self.new }

@@ -1,7 +1,6 @@
 //! Entries, and the ids and stat numbers in them.
 
 ghost use Rattle.std.specs.Prelude.{◌≡◌};
-ghost use Rattle.gix_index.specs.State.{PathsInStorage};
 
 use super::Text;
 use crate::Lines;
@@ -87,9 +86,7 @@ impl Display for Item<'_> {
 }
 
 /// The list of a state's entries.
-pub fn entries(out: &mut Lines, state: &State)
-    requires { PathsInStorage state.now }
-{
+pub fn entries(out: &mut Lines, state: &State) {
     write!(out, "entries: [");
     for (place, entry) in state.entries().iter().enumerate() {
         if place > 0 {

@@ -23,10 +23,6 @@ pub fn heading(out: &mut Lines, state: &State, checksum: Option<ObjectId>) {
 /// All that a state tells.
 pub fn state(out: &mut Lines, state: &State, checksum: Option<ObjectId>) {
     heading(out, state, checksum);
-    if !state.paths_in_storage() {
-        writeln!(out, "entry: a path outside the storage");
-        return;
-    }
     for (place, entry) in state.entries().iter().enumerate() {
         let path = entry.path(state);
         writeln!(out, "entry {place}: {}", Item { path, entry });

@@ -14,19 +14,17 @@ others : (c : goal.After-sort_entries)
 others c = c.remove_entries.ensures.filtered (is_at c.args.path.now)
     (always_returns_same _ _ _ (λ a r f called. search rules))
 
-pub push_side-requires : goal.push_side-requires
-push_side-requires c = c.remove_entries.ensures.placed (always_returns_same _ _ _ (λ a r f called. search rules))
-
 pub returns-clause-exactly : goal.returns-clause-exactly
-returns-clause-exactly c =
+returns-clause-exactly c = λ placed.
     let path = c.args.path.now in
+    let left = c.remove_entries.ensures.placed (always_returns_same _ _ _ (λ a r f called. search rules)) placed in
+    let one = c.in_ok-push_side.ensures.placed left in
+    let two = c.in_ok-push_side-2.ensures.placed one in
     let pushed = three_pushed (records c.remove_entries.new.self) (records c.push_side.new.state)
     (records c.push_side-2.new.state) (records c.push_side-3.new.state)
     (stage_of path 1 c.args.base) (stage_of path 2 c.args.ours) (stage_of path 3 c.args.theirs)
-    c.in_ok-push_side.ensures.pushed c.in_ok-push_side-2.ensures.pushed c.in_ok-push_side-3.ensures.pushed in
+    (c.in_ok-push_side.ensures.pushed left) (c.in_ok-push_side-2.ensures.pushed one)
+    (c.in_ok-push_side-3.ensures.pushed two) in
     let P : List Record → Type 0 = λ l. IsPermutation l (records c.sort_entries.new.self) in
     on_ok c.sort_entries.result
     (subst P (rw (sym (others c)) pushed) c.sort_entries.ensures.permutation)
-
-pub returns-clause-placed : goal.returns-clause-placed
-returns-clause-placed c = on_ok c.sort_entries.result c.sort_entries.ensures.placed

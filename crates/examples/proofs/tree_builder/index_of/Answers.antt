@@ -6,7 +6,7 @@ use Rattle.examples.proofs.tree_builder.index_of.Goals as goal
 
 pub returns-in_err-verify_entries-clause-twice : goal.returns-in_err-verify_entries-clause-twice
 returns-in_err-verify_entries-clause-twice c =
-    let of_files = rw c.in_ok-state.ensures.entries at c.sort_entries.ensures.permutation in
+    let of_files = rw c.in_ok-state.ensures at c.sort_entries.ensures.permutation in
     let p = err_from_is_err_and c.from_residual-in_err-verify_entries.result
     c.from_residual-in_err-verify_entries.ensures.1 in
     rw (p.1, p.2)

@@ -1,4 +1,4 @@
-use Rattle.std.proofs.Common.{◌≡◌, ◌⊎◌, inl, inr}
+use Rattle.std.proofs.Common.{◌≡◌, ◌⊎◌, inl, inr, arith}
 use Rattle.index_bitmap_writing.proofs.MarkedWords.{literals_at, run_at}
 use Rattle.index_bitmap_writing.proofs.encoding.chunk_at.Goals as goal
 use Rattle.index_bitmap_writing.proofs.encoding.chunk_at.Goals.{else-first-ne0-via-then-first-ne0+else-first, else-first-ne0-via-else-first-ne0}
@@ -22,3 +22,10 @@ returns-clause-chunk g c =
     c.word-first.ensures alike c.run_end-literals.ensures.behind c.literals_end-2.ensures.behind
     c.run_end-literals.ensures.run c.run_end-literals.ensures.ends c.literals_end-2.ensures.literal
     c.literals_end-2.ensures.ends).1
+
+pub returns-then-first-clause-inside : goal.returns-then-first-clause-inside
+returns-then-first-clause-inside g c = c.literals_end.ensures.inside (omega (arith, c.requires))
+
+pub returns-clause-inside : goal.returns-clause-inside
+returns-clause-inside g c =
+    c.literals_end-2.ensures.inside (c.run_end-literals.ensures.inside (omega (arith, c.requires)))

@@ -11,7 +11,7 @@ loop-end-preserved g c =
     let word = c.word-word.result in
     record {
       behind = omega (arith, h.behind);
-      inside = omega (arith, c.loop-end-test.true, c.count-count.ensures.count);
+      inside = λ h. omega (arith, c.loop-end-test.true, c.count-count.ensures.count);
       so_far = subst (All IsLiteral)
           (sym (between_next words c.args.place c.loop-end.end word _ h.behind c.word-word.ensures))
           (All-append IsLiteral (words_between c.args.place c.loop-end.end words) (word ∷ []) h.so_far

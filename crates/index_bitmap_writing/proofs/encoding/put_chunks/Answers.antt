@@ -17,7 +17,7 @@ returns-in_err-put_chunk g c =
     let h = c.loop-place.invariant in
     puts_stopped_after c.from_residual.result _ c.from_residual.ensures.0
     (chunk_rest (drop c.loop-place.place words) (drop chunk.end words) h.so_far.0 _ (marked_at words chunk)
-    c.chunk_at-chunk.ensures.chunk h.so_far.2) h.so_far.1 h.loan c.in_err-put_chunk.ensures
+    c.chunk_at-chunk.ensures.chunk h.so_far.2) h.so_far.1 h.going h.loan c.in_err-put_chunk.ensures
 
 pub loop-place-preserved : goal.loop-place-preserved
 loop-place-preserved g c =
@@ -26,7 +26,7 @@ loop-place-preserved g c =
     let h = c.loop-place.invariant in
     record {
       inside = c.chunk_at-chunk.ensures.inside;
-      unfailed = c.in_ok-put_chunk.ensures.failed;
+      going = λ f. c.in_ok-put_chunk.ensures.failed (h.going f);
       loan = c.in_ok-put_chunk.ensures.loan ∙ h.loan;
       so_far = (
         h.so_far.0 ++ flat_map be64 (marked_words (marked_at words chunk)),
@@ -44,4 +44,4 @@ returns g c =
     (drop_all c.loop-place.place words (omega (arith, c.loop-place-test.false, c.count-count.ensures.count))) in
     let whole = sym (append-nil h.so_far.0)
     ∙ ap (λ l. h.so_far.0 ++ flat_map be64 (flat_map marked_words l)) (sym none) ∙ h.so_far.2 in
-    puts_is _ whole (record { takes = h.so_far.1; failed = h.unfailed; loan = h.loan })
+    puts_is _ whole (record { takes = h.so_far.1; failed = h.going; loan = h.loan })

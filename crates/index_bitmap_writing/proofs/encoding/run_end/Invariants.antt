@@ -6,7 +6,7 @@ use Rattle.index_bitmap_writing.proofs.encoding.run_end.Given as goal
 abbrev pub invariant-loop-end : goal.invariant-loop-end
 invariant-loop-end g l = record {
   behind : l.place ≤ l.end;
-  inside : l.end ≤ length (g.B.Words.words l.bits);
+  inside : l.place ≤ length (g.B.Words.words l.bits) → l.end ≤ length (g.B.Words.words l.bits);
   so_far : drop l.place (g.B.Words.words l.bits)
       ≡ replicate (l.end - l.place) l.word ++ drop l.end (g.B.Words.words l.bits);
 }

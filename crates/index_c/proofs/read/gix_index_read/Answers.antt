@@ -10,8 +10,8 @@ use Rattle.index_numbers.proofs.Refusals.{refused_from, unread_from}
 use Rattle.index_c.proofs.Tellings.{done_told, failure_told, kept_told, no_room_told, with_kind}
 use Rattle.index_c.proofs.read.gix_index_read.Goals as goal
 
-pub returns-clause-table : goal.returns-clause-table
-returns-clause-table c =
+pub returns : goal.returns
+returns c =
     record {
       says = record {
         at_most = search rules;
@@ -63,4 +63,5 @@ returns-clause-table c =
           c.tell.result
           c.tell.new.summary
           c.read_table-read.ensures.paths c.tell.ensures.told isnt;
+      text = c.tell.ensures.text;
     }

@@ -10,8 +10,8 @@ use Rattle.index_numbers.proofs.Refusals.{lack_both, refused_both}
 use Rattle.index_c.proofs.Tellings.{done_told, failure_told, kept_told, no_room_told, with_kind}
 use Rattle.index_c.proofs.read.gix_index_read_split.Goals as goal
 
-pub returns-clause-table : goal.returns-clause-table
-returns-clause-table c =
+pub returns : goal.returns
+returns c =
     record {
       says = record {
         at_most = search rules;
@@ -64,4 +64,5 @@ returns-clause-table c =
           c.tell.result
           c.tell.new.summary
           c.read_split-read.ensures.paths c.tell.ensures.told isnt;
+      text = c.tell.ensures.text;
     }

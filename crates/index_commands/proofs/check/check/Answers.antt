@@ -48,7 +48,7 @@ returns-in-Ok g c = record {
       };
       is = refl;
     };
-    grew = c.in-Ok.ensures.ok;
+    grew = c.in-Ok.ensures.takes.grew;
   };
   refused = tt;
 }
@@ -56,7 +56,7 @@ returns-in-Ok g c = record {
 pub returns : goal.returns
 returns g c = record {
   told = tt;
-  refused = part c.in-Err.e refl (λ n. rw c.in-Err.is at c.put_text.ensures.has_failed) (record {
+  refused = part c.in-Err.e refl (λ n. c.in-Err.ensures.failed) (record {
     text = ok_line;
     is = inl (record {
       value = contents (state_of c.in_ok-index.index);
@@ -71,6 +71,6 @@ returns g c = record {
       };
       is = refl;
     });
-    grew = c.in-Err.ensures.err;
+    grew = c.in-Err.ensures.takes;
   });
 }

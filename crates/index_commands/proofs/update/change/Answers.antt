@@ -14,15 +14,15 @@ returns-in-Ok-apply c =
     ap (λ (cs : List Change). map change_value cs) c.deref-2.ensures.value ∙ c.in-Ok-changes.ensures
     ∙ ap (λ (ls : List Line). map line_value ls) c.deref.ensures.value in
     record {
-      updated = record {
-        ordered = c.requires.ordered;
+      updated = λ placed. record {
+        ordered = c.requires;
         changes = c.deref-2.result.now;
         said = subst (λ (vs : List ChangeValue). AreSaid c.args.nul c.args.kind c.args.text.now vs) (sym same)
             c.in-Ok.ensures.said;
         room = length (storage_of c.args.state.now);
         granted = c.in-Ok-apply.ensures.reason;
-        is = c.in-Ok-apply.ensures.updated c.requires.ordered;
-        applied = c.in-Ok-apply.ensures.applied c.requires.ordered;
+        is = c.in-Ok-apply.ensures.updated placed c.requires;
+        applied = c.in-Ok-apply.ensures.applied placed c.requires;
       };
       placed = grind (arith, common_steps);
       fault = tt;

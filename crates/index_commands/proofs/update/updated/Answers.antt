@@ -1,8 +1,7 @@
-use Rattle.std.proofs.Common.{arith, refl, subst, sym}
-use Rattle.std.proofs.lemmas.Grind.{common_steps}
+use Rattle.std.proofs.Common.{refl, subst, sym}
 use Rattle.gix_index.specs.File.{state_of}
 use Rattle.gix_index.specs.SoundState.{SaysFall}
-use Rattle.gix_index.specs.State.{contents}
+use Rattle.gix_index.specs.State.{PathsInStorage, contents}
 use Rattle.gix_index.specs.StateType.{State}
 use Rattle.index_commands.specs.Updating.{IsUpdatedBy, unordered}
 use Rattle.index_commands.proofs.update.updated.Goals as goal
@@ -16,9 +15,12 @@ returns g c = record {
     held = c.in_ok-text.ensures.held;
     updated = subst (λ (s : State). IsUpdatedBy c.args.nul c.args.kind c.in_ok-text.text.items
         (contents (state_of c.in_ok-index.index)) (contents s)) (sym c.from_state.ensures.state)
-        (rw (c.deref-2.ensures.value, c.into_parts-state.ensures.state) at c.in_ok-change.ensures.updated);
+        ((rw (c.deref-2.ensures.value, c.into_parts-state.ensures.state) at c.in_ok-change.ensures.updated)
+        c.in_ok-index.ensures.placed);
   };
-  placed = grind (arith, common_steps);
+  placed = subst (λ (s : State). PathsInStorage s) (sym c.from_state.ensures.state)
+      (c.change.ensures.placed (subst (λ (s : State). PathsInStorage s) (sym c.into_parts-state.ensures.state)
+      c.in_ok-index.ensures.placed));
   fault = tt;
 }
 

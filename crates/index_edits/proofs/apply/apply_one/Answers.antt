@@ -11,9 +11,9 @@ pub returns-in_ok-settle_clear-in-Stage : goal.returns-in_ok-settle_clear-in-Sta
 returns-in_ok-settle_clear-in-Stage c =
     let old = records_in c.args.storage.now.items c.args.entries.now.items in
     record {
-      applied = λ o clear. one_staged c.args.change.now old _ (with_path c.in-Stage.path.now c.in-Stage.entry)
+      applied = λ placed o clear. one_staged c.args.change.now old _ (with_path c.in-Stage.path.now c.in-Stage.entry)
           (ap (λ x. applied_one x old) c.in-Stage.is) (λ r. ap (λ x. takes_out x r) c.in-Stage.is)
-          (c.in_ok-settle_clear-in-Stage.ensures.staged.made o
+          (c.in_ok-settle_clear-in-Stage.ensures.staged.made placed o
           (subst (λ x. IsClearFor c.args.known x old) c.in-Stage.is clear));
       placed = search rules;
       storage = search rules;
@@ -29,7 +29,7 @@ returns-in-Unstage c =
     let old = records_in s es in
     let path = c.in-Unstage.path.now in
     record {
-      applied = λ o clear. one_unstaged c.args.change.now old _ path
+      applied = λ _ o clear. one_unstaged c.args.change.now old _ path
           (ap (λ x. applied_one x old) c.in-Unstage.is) (λ r. ap (λ x. takes_out x r) c.in-Unstage.is)
           (subst (λ t. ChangesOrdered (IsUnstagedFrom path) t es t ds) c.deref.ensures.value c.unstage.ensures.unstaged o);
       placed = search rules;

@@ -1,23 +1,34 @@
-use Rattle.std.proofs.Common.{◌∙◌, sym, arith}
+use Rattle.std.proofs.Common.{◌<◌, ◌∙◌, length, sym, arith}
 use Rattle.std.proofs.lemmas.List.Folds.{list_any_none}
+use Rattle.std.specs.List.{HoldsAt}
 use Rattle.index_lookups.proofs.Closest.{any_here}
 use Rattle.index_edits.proofs.Anys.{none_more}
+use Rattle.index_edits.proofs.Orderings.{below_told}
 use Rattle.index_edits.specs.Changes.{path_of}
-use Rattle.index_edits.specs.Reorders.{has_within}
+use Rattle.index_edits.specs.Reorders.{IsAnswerBelow, has_within}
 use Rattle.index_edits.specs.declared.change.Change.{Change}
 use Rattle.index_edits.proofs.order.are_nested.Goals as goal
 
-pub returns-then-has_below : goal.returns-then-has_below
-returns-then-has_below c =
+pub returns-then-is_eq : goal.returns-then-is_eq
+returns-then-is_eq c =
     let cs = c.args.changes.now in
-    sym (any_here (λ (c : Change). has_within cs (path_of c)) cs c.loop-place.place
-    (omega (arith, c.loop-place-test.true), λ d. sym (c.has_below.ensures d) ∙ c.if-has_below.true))
+    let place = c.loop-place.place in
+    let within : place < length cs = omega (arith, c.loop-place-test.true) in
+    let told : HoldsAt (IsAnswerBelow cs c.is_eq.result) cs place = λ d. c.is_eq.ensures
+    ∙ below_told cs place c.requires within d c.path-folder.result.now _ c.path-folder.ensures c.end_from-end.result
+    c.end_from-end.ensures.from c.end_from-end.ensures.parts c.compare.result c.compare.ensures in
+    sym (any_here (λ (c : Change). has_within cs (path_of c)) cs place (within, λ d. sym (told d) ∙ c.if-is_eq.true))
 
 pub loop-place-preserved : goal.loop-place-preserved
 loop-place-preserved c =
     let cs = c.args.changes.now in
-    none_more (λ (c : Change). has_within cs (path_of c)) cs c.loop-place.place c.loop-place.invariant
-    (λ d. sym (c.has_below.ensures d) ∙ c.if-has_below.false)
+    let place = c.loop-place.place in
+    let within : place < length cs = omega (arith, c.loop-place-test.true) in
+    let told : HoldsAt (IsAnswerBelow cs c.is_eq.result) cs place = λ d. c.is_eq.ensures
+    ∙ below_told cs place c.requires within d c.path-folder.result.now _ c.path-folder.ensures c.end_from-end.result
+    c.end_from-end.ensures.from c.end_from-end.ensures.parts c.compare.result c.compare.ensures in
+    none_more (λ (c : Change). has_within cs (path_of c)) cs place c.loop-place.invariant
+    (λ d. sym (told d) ∙ c.if-is_eq.false)
 
 pub returns : goal.returns
 returns c =

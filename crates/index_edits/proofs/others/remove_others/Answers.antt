@@ -22,5 +22,5 @@ returns c =
         length-map c.args.entries.now.items (record_in s),
         length-filter_both test (λ r. not (test r)) (λ r. refl) (records_in s c.args.entries.now.items),
       );
-      placed = left_placed _ _ _ _ _ _ c.remove_entries.ensures (always_returns_same _ _ _ (λ a r f called. search rules)) c.requires;
+      placed = left_placed _ _ _ _ _ _ c.remove_entries.ensures (always_returns_same _ _ _ (λ a r f called. search rules));
     }

@@ -15,7 +15,7 @@ returns-in-Ok-clause-put c =
     c.new-there.ensures ∙ ap (λ x. records_in x c.deref.result.now) c.deref-2.ensures.value
     ∙ ap (records_in s) c.deref.ensures.value in
     record {
-      made = λ o. put_replaced c.args.entry c.args.path.now s es c.index_mut.result.now c.overwrite.new.slot c.in-Ok.place _
+      made = λ _ o. put_replaced c.args.entry c.args.path.now s es c.index_mut.result.now c.overwrite.new.slot c.in-Ok.place _
           c.new-there.result c.key_place.result c.in-Ok.is there (ap stage_code c.stage.ensures ∙ stage_is _)
           c.key_place.ensures.found c.index_mut.ensures.value c.overwrite.ensures o;
       placed = search rules;
@@ -38,12 +38,12 @@ returns-in_ok-append-in-Err-clause-put c =
     let is = with_items_is v c.move_last.new.entries (omega (arith, c.move_last.auto.entries, c.as_mut_slice.ensures.len))
     ∙ c.move_last.ensures es a.entry (c.as_mut_slice.ensures.value ∙ a.entries) in
     record {
-      made = λ o. put_more new s c.append.new.storage.items es v.items _ c.in-Err.place
-          c.requires.placed a is c.key_place.result c.in-Err.is
+      made = λ placed o. put_more new s c.append.new.storage.items es v.items _ c.in-Err.place
+          placed a is c.key_place.result c.in-Err.is
           (rw there at c.key_place.ensures.in_range)
           (rw (there, stage) at c.key_place.ensures.answer) o;
-      placed = placed_more new s c.append.new.storage.items es v.items _ c.in-Err.place
-          c.requires.placed a is (appended_placed s es _ c.append.new.storage.items v.items c.requires.placed a);
+      placed = λ placed. placed_more new s c.append.new.storage.items es v.items _ c.in-Err.place
+          placed a is (appended_placed s es _ c.append.new.storage.items v.items placed a);
       storage = search rules;
       err_entries = search rules;
       err_storage = search rules;

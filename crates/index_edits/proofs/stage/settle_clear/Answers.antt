@@ -5,7 +5,7 @@ use Rattle.std.specs.Prelude.{not}
 use Rattle.index_entries.specs.Order.{IsStrictlyOrdered, record_stage}
 use Rattle.index_entries.specs.Record.{record_in, records_in, with_path}
 use Rattle.index_edits.specs.Edits.{IsStagedInto, displaced}
-use Rattle.index_edits.specs.EntryEdits.{ChangesOrdered}
+use Rattle.index_edits.specs.EntryEdits.{ChangesPlaced}
 use Rattle.index_edits.specs.EditSteps.{IsClearUpto, is_other, is_side_at}
 use Rattle.index_edits.proofs.Displacings.{conflict_told}
 use Rattle.index_edits.proofs.Stagings.{left_staged, none_staged, staged_count, staged_into}
@@ -18,15 +18,15 @@ there c =
     ∙ ap (records_in c.args.storage.now.items) c.deref.ensures.value
 
 made : (c : goal.After-takes_conflict-conflict)
-    → ChangesOrdered (λ old now. IsClearUpto c.args.known c.args.path.now c.args.entry old
+    → ChangesPlaced (λ old now. IsClearUpto c.args.known c.args.path.now c.args.entry old
     → IsStagedInto (with_path c.args.path.now c.args.entry) old now) c.args.storage.now.items c.args.entries.now.items
     c.put.new.storage.items c.if-way.entries.items
-made c = λ o clear.
+made c = λ placed o clear.
     let new = with_path c.args.path.now c.args.entry in
     let old = records_in c.args.storage.now.items c.args.entries.now.items in
     let t = c.put.new.storage.items in
     let now = records_in t c.put.new.entries.items in
-    let p = c.in_ok-put.ensures.put.made o in
+    let p = c.in_ok-put.ensures.put.made placed o in
     let others = subst (λ rs. IsStrictlyOrdered rs → IsClearUpto c.args.known c.args.path.now c.args.entry rs
     → c.in_the_way-way.result.others ≡ list_any (is_other new) rs)
     (there c) c.in_the_way-way.ensures.others o clear in
@@ -46,13 +46,13 @@ returns c = record {
     err_entries = search rules;
     err_storage = search rules;
   };
-  told = λ clear o.
+  told = λ clear placed o.
       let new = with_path c.args.path.now c.args.entry in
       let s = c.args.storage.now.items in
       let old = records_in s c.args.entries.now.items in
       let t = c.put.new.storage.items in
-      let is = (made c o clear).is in
-      let p = c.in_ok-put.ensures.put.made o in
+      let is = (made c placed o clear).is in
+      let p = c.in_ok-put.ensures.put.made placed o in
       let count : c.len-before.result + 1 - c.len.result ≡ length (displaced new old) =
       omega (
         arith,

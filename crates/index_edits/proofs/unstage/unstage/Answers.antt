@@ -1,12 +1,10 @@
-use Rattle.std.proofs.Common.{rules, ◌≡◌, ◌∙◌, ℕ, All, List, drop, length, sym, take, None, Option, Some, ap, subst}
-use Rattle.std.proofs.lemmas.List.Elements.{All-append, All-drop, All-take}
+use Rattle.std.proofs.Common.{rules, ◌≡◌, ◌∙◌, ℕ, All, List, length, sym, None, Option, Some, ap, subst}
 use Rattle.std.specs.declared.ops.Range.{Range}
 use Rattle.index_entries.specs.Order.{IsOrderedByPath, IsStrictlyOrdered}
 use Rattle.index_entries.specs.Record.{IsPlaced, Record, records_in}
-use Rattle.index_entries.specs.declared.Entry.{Entry}
 use Rattle.index_lookups.specs.Range.{IsRange, is_at}
 use Rattle.index_lookups.proofs.Lookup.{ordered_by_path}
-use Rattle.index_edits.proofs.Unstagings.{count_none, count_some, outside_records, unstaged_none, unstaged_some}
+use Rattle.index_edits.proofs.Unstagings.{count_none, count_some, outside_placed, outside_records, unstaged_none, unstaged_some}
 use Rattle.index_edits.proofs.unstage.unstage.Goals as goal
 
 range_is : (path : List ℕ) (there old : List Record) (r o : Option (Range ℕ)) → there ≡ old → r ≡ o
@@ -40,7 +38,6 @@ returns c =
       unstaged = λ o. unstaged_some path (records_in s es) o p (range o) _
           (ap (records_in s) c.cut.ensures ∙ outside_records s es p.start p.end);
       count = λ o. count_some path (records_in s es) o p (range o);
-      placed = let P : Entry → Type 0 = IsPlaced (length s) in
-          subst (All P) (sym c.cut.ensures) (All-append P (take p.start es) (drop p.end es)
-          (All-take P p.start es c.requires) (All-drop P p.end es c.requires));
+      placed = λ placed. subst (All (IsPlaced (length s))) (sym c.cut.ensures)
+          (outside_placed (length s) es p.start p.end placed);
     }

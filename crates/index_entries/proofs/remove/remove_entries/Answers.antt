@@ -11,15 +11,6 @@ use Rattle.index_entries.proofs.remove.remove_entries.Goals as goal
 use Rattle.index_entries.proofs.remove.remove_entries.Goals.{then-not-remove, then-retained-i, else-retained-i}
 use Rattle.index_entries.proofs.remove.remove_entries.Goals.{else-not-remove}
 
-pub path_in-path-requires : goal.path_in-path-requires
-path_in-path-requires g c =
-    let now = c.loop-i.entries.items in
-    let old = c.args.entries.now.items in
-    let i = c.loop-i.i in
-    let same : c.index.result.now ≡ get_or old i c.index.result.now =
-    c.index.ensures ∙ same_at now old i c.index.result.now c.loop-i.invariant.3 in
-    rw same (c.requires.placed i c.index.result.now (omega arith))
-
 pub loop-i-preserved : goal.loop-i-preserved
 loop-i-preserved g c =
     let inv = c.loop-i.invariant in

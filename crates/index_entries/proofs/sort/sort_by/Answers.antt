@@ -1,15 +1,15 @@
-use Rattle.std.proofs.Common.{rules, length, ◌≡◌, refl, ◌∙◌}
+use Rattle.std.proofs.Common.{rules, ◌≡◌, refl, ◌∙◌}
 use Rattle.std.specs.Fn.{ComparesAs}
 use Rattle.std.specs.Ordering.{is_lt}
 use Rattle.std.specs.List.Sorted.{IsPermutation, IsSortedBy, IsStableBy}
 use Rattle.std.proofs.lemmas.Fn.{answers_by}
 use Rattle.std.proofs.lemmas.List.Elements.{same_from_all_zip}
-use Rattle.std.proofs.lemmas.List.Sorted.{All-permutation, IsPermutation-trans}
+use Rattle.std.proofs.lemmas.List.Sorted.{IsPermutation-trans}
 use denote.Param.Always.{always_mut, mut_by}
 use Rattle.index_entries.specs.declared.Entry.{Entry}
 use Rattle.index_entries.specs.Sorted.{AsksThird, is_before_by}
 use Rattle.index_entries.specs.Order.{record_cmp}
-use Rattle.index_entries.specs.Record.{IsPlaced, record_in}
+use Rattle.index_entries.specs.Record.{record_in}
 use Rattle.index_entries.proofs.Thirdly.{still, answered, thirdly, ordered_first}
 use Rattle.index_entries.proofs.sort.sort_by.Goals as goal
 
@@ -58,11 +58,3 @@ returns-clause-ties g c = λ by order compares.
     let unmoved : c.sort.new.entries.items ≡ mid =
     c.in_ok-sort.ensures.unmoved (ordered_first storage by order mid sorted) in
     rw (unmoved, ← same) (sorted, stable)
-
-pub sort-requires : goal.sort-requires
-sort-requires g c =
-    let old = c.args.entries.now.items in
-    let same : c.in_ok-copy.copy.items ≡ old =
-    same_from_all_zip _ old c.in_ok-copy.copy.items c.in_ok-copy.ensures.cases.0 same_entry in
-    let one : IsPermutation old c.sort_by.new.self.items = rw (← same) c.in_ok-sort_by.ensures.permutation in
-    All-permutation (IsPlaced (length c.args.backing.now)) old c.sort_by.new.self.items one c.requires.placed

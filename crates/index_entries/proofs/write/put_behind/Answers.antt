@@ -29,7 +29,7 @@ returns-clause-gathered g c =
     ∙ ap (λ n. take n c.put.new.out.bytes) c.len-len.ensures ∙ back in
     let took = rw piece at c.in_ok-put.ensures.bytes in
     gathers_none c.put-3.result c.cut_to-2.new.self.bytes (ap (λ (h : Gathered). h.bytes) c.cut_to-2.ensures)
-    (puts_then c.put-3.result took c.in_ok-put.ensures.loan c.put-3.ensures)
+    (puts_then c.put-3.result took c.in_ok-put.ensures.has_failed c.in_ok-put.ensures.loan c.put-3.ensures)
 
 pub returns-clause-fault : goal.returns-clause-fault
 returns-clause-fault g c =
@@ -40,4 +40,4 @@ returns-clause-fault g c =
     let piece : c.as_slice.result.now ≡ old = c.as_slice.ensures ∙ ap (λ (h : Gathered). h.bytes) c.cut_to.ensures
     ∙ ap (λ n. take n c.put.new.out.bytes) c.len-len.ensures ∙ back in
     let took = rw piece at c.in_ok-put.ensures.bytes in
-    on_err _ (puts_then c.put-3.result took c.in_ok-put.ensures.loan c.put-3.ensures)
+    on_err _ (puts_then c.put-3.result took c.in_ok-put.ensures.has_failed c.in_ok-put.ensures.loan c.put-3.ensures)

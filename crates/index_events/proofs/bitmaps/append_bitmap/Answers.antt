@@ -12,9 +12,8 @@ returns g c =
     let r = c.put_all.result in
     let new = c.put_all.new.self.bytes.items in
     (then_one spell r new c.in_ok-put.ensures (then_one spell r new c.in_ok-put-2.ensures
-    (then_one spell r new (rw (c.first-num_bits.ensures, c.from.ensures, c.num_bits.ensures) at c.in_ok-put-3.ensures)
-    (then_one spell r new
-    (rw (c.next.ensures, c.deref.ensures.value, c.in_ok-bits.ensures.ranges) at c.in_ok-put-4.ensures)
+    (then_one spell r new (rw (c.from.ensures, c.num_bits.ensures) at c.in_ok-put-3.ensures)
+    (then_one spell r new (rw (c.deref.ensures.value, c.in_ok-bits.ensures.ranges) at c.in_ok-put-4.ensures)
     (end_all spell r new _
     (drop 4 (bitmap_events c.args.words.now (position_of c.args.member) (bitmap c.args.map.now)))
-    (rw (c.next-malformed.ensures, c.in_ok-bits.ensures.malformed) at c.put_all.ensures)))))).is
+    (rw c.in_ok-bits.ensures.malformed at c.put_all.ensures)))))).is

@@ -1,7 +1,7 @@
 use Rattle.std.proofs.Common.{Some, [], ◌∷◌, codes}
 use Rattle.index_bitmaps.specs.Bitmap.{bitmap}
-use Rattle.index_events.specs.Event.{absent_field, an_id, begin_object, datum_field, end_object, first, first_field}
-use Rattle.index_events.specs.Event.{next}
+use Rattle.index_events.specs.declared.event.Datum.TheVariants.{Absent, Id}
+use Rattle.index_events.specs.Event.{begin_object, datum_field, end_object, first, next}
 use Rattle.index_events.specs.Bitmaps.{bitmap_events, link_events, pair_events}
 use Rattle.index_events.proofs.Steps.{behind_last, end_all, end_is, then_all, then_one}
 use Rattle.index_events.proofs.bitmaps.append_link.Goals as goal
@@ -13,11 +13,11 @@ returns-in_default-bitmaps g c =
     let r = c.put_all-in_default-bitmaps.result in
     let new = c.put_all-in_default-bitmaps.new.self.bytes.items in
     rw (c.in-Some.is, c.in_default-bitmaps.is) (then_all spell r new
-    (begin_object (next (codes "link")) ∷ datum_field (first_field [] (codes "link") (codes "shared_index_checksum"))
-    (an_id (Some c.in-Some.link.now.shared_index_checksum)) ∷ [])
-    (rw c.first-field.ensures at c.in_ok-put_all.ensures)
-    (end_all spell r new _ (absent_field (codes "  ") (codes "bitmaps") (codes "bitmaps") ∷ end_object ∷ [])
-    (rw c.absent-in_default-bitmaps.ensures at c.put_all-in_default-bitmaps.ensures))).is
+    (begin_object (next (codes "link")) ∷ datum_field [] (codes "link") (first (codes "shared_index_checksum"))
+    (Id (Some c.in-Some.link.now.shared_index_checksum)) ∷ [])
+    c.in_ok-put_all.ensures
+    (end_all spell r new _ (datum_field (codes "  ") (codes "bitmaps") (next (codes "bitmaps")) Absent ∷ end_object ∷ [])
+    c.put_all-in_default-bitmaps.ensures)).is
 
 pub returns : goal.returns
 unfolding link_events pair_events
@@ -28,9 +28,9 @@ returns g c =
     let deleted = bitmap_events (codes "deleted") (first (codes "delete")) (bitmap c.in-Some-bitmaps.pair.delete) in
     let replaced = bitmap_events (codes "replaced") (next (codes "replace")) (bitmap c.in-Some-bitmaps.pair.replace) in
     rw (c.in-Some.is, c.in-Some-bitmaps.is) (then_all spell r new
-    (begin_object (next (codes "link")) ∷ datum_field (first_field [] (codes "link") (codes "shared_index_checksum"))
-    (an_id (Some c.in-Some.link.now.shared_index_checksum)) ∷ [])
-    (rw c.first-field.ensures at c.in_ok-put_all.ensures)
+    (begin_object (next (codes "link")) ∷ datum_field [] (codes "link") (first (codes "shared_index_checksum"))
+    (Id (Some c.in-Some.link.now.shared_index_checksum)) ∷ [])
+    c.in_ok-put_all.ensures
     (then_one spell r new c.in_ok-put.ensures
     (end_is spell r new
     (then_all spell r new deleted c.in_ok-append_bitmap.ensures

@@ -1,14 +1,13 @@
 use Rattle.std.proofs.Common.{Some, drop, take}
 use Rattle.index_small_extensions.specs.FsMonitor.{monitor_of}
 use Rattle.index_events.specs.Bitmaps.{bitmap_events, monitor_events}
-use Rattle.index_events.proofs.Steps.{end_as, end_one, then_all}
+use Rattle.index_events.proofs.Steps.{end_one, then_all}
 use Rattle.index_events.proofs.bitmaps.append_monitor.Goals as goal
 
 pub returns-in_default : goal.returns-in_default
 unfolding monitor_events
 returns-in_default g c =
-    let end = end_as g.P.Printer.spell c.put.result c.put.new.text.bytes.items _ _ _ c.put.ensures c.absent.ensures in
-    rw c.in_default.is end.is
+    rw c.in_default.is (end_one g.P.Printer.spell c.put.result c.put.new.text.bytes.items _ _ c.put.ensures).is
 
 pub returns : goal.returns
 unfolding monitor_events bitmap_events

@@ -1,7 +1,6 @@
-use Rattle.std.proofs.Common.{Some, ap, codes}
-use Rattle.index_events.specs.Event.{datum_field, no_value}
+use Rattle.std.proofs.Common.{Some}
 use Rattle.index_events.specs.Marks.{end_events, marker_events}
-use Rattle.index_events.proofs.Steps.{end_all, end_as, then_one}
+use Rattle.index_events.proofs.Steps.{end_all, end_one, then_one}
 use Rattle.index_events.proofs.marks.append_end.Goals as goal
 
 pub returns-then-not-had : goal.returns-then-not-had
@@ -11,7 +10,7 @@ returns-then-not-had g c =
     let r = c.put-then-not-had.result in
     let new = c.put-then-not-had.new.text.bytes.items in
     rw c.if-not-had.true (then_one spell r new (rw c.if-not-had.true at c.in_ok-put.ensures)
-    (end_as spell r new _ _ _ c.put-then-not-had.ensures c.absent.ensures)).is
+    (end_one spell r new _ _ c.put-then-not-had.ensures)).is
 
 pub returns-in_default : goal.returns-in_default
 unfolding end_events marker_events
@@ -20,8 +19,7 @@ returns-in_default g c =
     let r = c.put-in_default.result in
     let new = c.put-in_default.new.text.bytes.items in
     rw (c.if-not-had.false, c.in_default.is) (then_one spell r new (rw c.if-not-had.false at c.in_ok-put.ensures)
-    (end_as spell r new _ _ _ c.put-in_default.ensures
-    (ap (λ f. datum_field f (no_value (codes "malformed"))) c.next-field.ensures))).is
+    (end_one spell r new _ _ c.put-in_default.ensures)).is
 
 pub returns : goal.returns
 unfolding end_events marker_events
@@ -30,5 +28,4 @@ returns g c =
     let r = c.put_all.result in
     let new = c.put_all.new.self.bytes.items in
     rw (c.if-not-had.false, c.in-Some.is) (then_one spell r new (rw c.if-not-had.false at c.in_ok-put.ensures)
-    (end_all spell r new _ (marker_events (Some c.in-Some.mark))
-    (rw (c.first-offset.ensures, c.from.ensures, c.next.ensures) at c.put_all.ensures))).is
+    (end_all spell r new _ (marker_events (Some c.in-Some.mark)) (rw c.from.ensures at c.put_all.ensures))).is

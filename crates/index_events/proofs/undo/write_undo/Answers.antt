@@ -1,58 +1,101 @@
-use Rattle.std.proofs.Common.{Err, None, Ok, [], ◌∷◌, ◌++◌, codes, length, map, sym}
+use Rattle.std.proofs.Common.{◌≡◌, ℕ, None, [], ◌∷◌, List, ◌++◌, ◌∙◌, ap, arith, codes, length, map, sym}
 use Rattle.std.proofs.lemmas.List.{length-map}
 use Rattle.std.proofs.lemmas.Result.{err_from_is_err_and}
 use Rattle.index_small_extensions.specs.ResolveUndo.{path_stages}
-use Rattle.index_events.specs.Event.{begin_array, count_line, end_array, listed, next}
+use Rattle.index_small_extensions.specs.declared.resolve_undo.ResolvePath.{ResolvePath}
+use Rattle.index_text.proofs.Written.{placed_out}
+use Rattle.index_events.specs.declared.event.Datum.TheVariants.{Number}
+use Rattle.index_events.specs.Event.{Event, begin_array, end_array, line_field, next, print}
 use Rattle.index_events.specs.Undo.{path_events, undo_events}
-use Rattle.index_events.proofs.Chain.{done_as, first_sent, rest_unheld, rest_untold, sent_then, told_then}
-use Rattle.index_events.proofs.Steps.{one_as, one_told}
+use Rattle.index_events.proofs.Chain.{done_as, first_sent}
+use Rattle.index_events.proofs.Listed.{shown}
+use Rattle.index_events.proofs.Loops.{ends_sent, ends_unheld, item_broken, item_unheld}
+use Rattle.index_events.proofs.Steps.{one_told}
 use Rattle.index_events.proofs.undo.write_undo.Goals as goal
+
+-- the first events
+abbrev begin : ℕ → List Event
+begin n = line_field [] (codes "resolve undo") (Number n) ∷ begin_array (next (codes "resolve_undo")) ∷ []
+
+-- the same, with how many paths there are
+counted : (spell : Event → List ℕ) (old : List ℕ) {new : List ℕ} {m n : ℕ} → new ≡ old ++ print spell (begin m)
+    → m ≡ n → new ≡ old ++ print spell (begin n)
+counted spell old e is = e ∙ ap (λ k. old ++ print spell (begin k)) is
 
 pub returns-in_default : goal.returns-in_default
 returns-in_default g c =
     let spell = g.P.Printer.spell in
-    rw c.in_default.is (done_as (first_sent spell c.args.text.now.bytes.items (undo_events None) c.requires
-    (one_as spell _ _ _ c.in_ok-put.ensures c.absent.ensures)))
+    rw c.in_default.is (done_as (first_sent spell c.args.text.now.bytes.items (undo_events None)
+    (one_told spell _ _ c.in_ok-put.ensures)))
 
-pub returns-in_err-write_each : goal.returns-in_err-write_each
-returns-in_err-write_each g c =
+pub loop-place-preserved : goal.loop-place-preserved
+loop-place-preserved g c =
+    placed_out (shown g.P.Printer.spell path_events path_stages) c.put_all.new.self.bytes.items
+    c.deref-path-items.result.now c.loop-place.place c.path-item.result (omega (arith, c.loop-place-test.true))
+    c.loop-place.invariant
+    (c.in_ok-append_path.ensures ∙ ap (λ (x : ResolvePath). c.loop-place.text.bytes.items
+    ++ print g.P.Printer.spell (path_events c.loop-place.place (path_stages x))) c.path-item.is)
+    c.in_ok-put_block.ensures.ok c.in_ok-put_block.ensures.has_failed c.in_ok-put_block.ensures.loan
+
+pub returns-in_err-append_path : goal.returns-in_err-append_path
+returns-in_err-append_path g c =
     let spell = g.P.Printer.spell in
-    let old = c.args.text.now.bytes.items in
     let paths = map path_stages c.in-Some.paths.now.items in
-    let es = listed path_events paths in
-    let begin = count_line [] (codes "resolve undo") (length paths) ∷ begin_array (next (codes "resolve_undo")) ∷ [] in
-    let first = first_sent spell old begin c.requires
-    (rw (c.as_slice-paths.ensures.value, sym (length-map c.in-Some.paths.now.items path_stages))
-    at c.in_ok-put_all.ensures) in
-    let p = err_from_is_err_and c.from_residual-in_err-write_each.result c.from_residual-in_err-write_each.ensures.1 in
-    rw (p.1, p.2, c.in-Some.is) (rest_untold spell old (begin ++ es) (end_array ∷ []) _
-    (sent_then spell old begin es (Err _) first (rw c.as_slice-paths.ensures.value at c.in_err-write_each.ensures)))
+    let p = err_from_is_err_and c.from_residual-in_err-append_path.result
+    c.from_residual-in_err-append_path.ensures.1 in
+    rw c.in-Some.is (item_unheld g.W.Out c.args.out.now spell path_events path_stages c.args.text.now.bytes.items
+    c.put_all.new.self.bytes.items
+    (begin (length paths)) (end_array ∷ []) c.deref-path-items.result.now paths
+    (counted spell c.args.text.now.bytes.items c.in_ok-put_all.ensures
+    (c.len.ensures ∙ sym c.deref-path-items.ensures.len
+    ∙ sym (length-map c.deref-path-items.result.now path_stages)
+    ∙ ap (λ ps. length (map path_stages ps)) c.deref-path-items.ensures.value))
+    (ap (map path_stages) c.deref-path-items.ensures.value) _ c.loop-place.place p.1 p.2 c.loop-place.invariant)
+
+pub returns-in_err-put_block : goal.returns-in_err-put_block
+returns-in_err-put_block g c =
+    let spell = g.P.Printer.spell in
+    let paths = map path_stages c.in-Some.paths.now.items in
+    let p = err_from_is_err_and c.from_residual-in_err-put_block.result
+    c.from_residual-in_err-put_block.ensures.1 in
+    rw c.in-Some.is (item_broken g.W.Out c.args.out.now spell path_events path_stages c.args.text.now.bytes.items
+    c.put_all.new.self.bytes.items
+    (begin (length paths)) (end_array ∷ []) c.deref-path-items.result.now paths
+    (counted spell c.args.text.now.bytes.items c.in_ok-put_all.ensures
+    (c.len.ensures ∙ sym c.deref-path-items.ensures.len
+    ∙ sym (length-map c.deref-path-items.result.now path_stages)
+    ∙ ap (λ ps. length (map path_stages ps)) c.deref-path-items.ensures.value))
+    (ap (map path_stages) c.deref-path-items.ensures.value) _ c.loop-place.place c.path-item.result p.1
+    (omega (arith, c.loop-place-test.true)) c.loop-place.invariant
+    (c.in_ok-append_path.ensures ∙ ap (λ (x : ResolvePath). c.loop-place.text.bytes.items
+    ++ print spell (path_events c.loop-place.place (path_stages x))) c.path-item.is)
+    c.in_err-put_block.ensures.err c.in_err-put_block.ensures.has_failed c.in_err-put_block.ensures.loan)
 
 pub returns-in_err-put-2 : goal.returns-in_err-put-2
 returns-in_err-put-2 g c =
     let spell = g.P.Printer.spell in
-    let old = c.args.text.now.bytes.items in
     let paths = map path_stages c.in-Some.paths.now.items in
-    let es = listed path_events paths in
-    let begin = count_line [] (codes "resolve undo") (length paths) ∷ begin_array (next (codes "resolve_undo")) ∷ [] in
-    let first = first_sent spell old begin c.requires
-    (rw (c.as_slice-paths.ensures.value, sym (length-map c.in-Some.paths.now.items path_stages))
-    at c.in_ok-put_all.ensures) in
-    let r = c.from_residual-in_err-put-2.result in
-    let p = err_from_is_err_and r c.from_residual-in_err-put-2.ensures.1 in
-    rw c.in-Some.is (rest_unheld spell old (begin ++ es) (end_array ∷ []) r p.1 p.2
-    (sent_then spell old begin es (Ok _) first (rw c.as_slice-paths.ensures.value at c.in_ok-write_each.ensures)))
+    let p = err_from_is_err_and c.from_residual-in_err-put-2.result c.from_residual-in_err-put-2.ensures.1 in
+    rw c.in-Some.is (ends_unheld g.W.Out c.args.out.now spell path_events path_stages c.args.text.now.bytes.items
+    c.put_all.new.self.bytes.items
+    (begin (length paths)) (end_array ∷ []) c.deref-path-items.result.now paths
+    (counted spell c.args.text.now.bytes.items c.in_ok-put_all.ensures
+    (c.len.ensures ∙ sym c.deref-path-items.ensures.len
+    ∙ sym (length-map c.deref-path-items.result.now path_stages)
+    ∙ ap (λ ps. length (map path_stages ps)) c.deref-path-items.ensures.value))
+    (ap (map path_stages) c.deref-path-items.ensures.value) _ c.loop-place.place p.1 p.2
+    (omega (arith, c.loop-place-test.false)) c.loop-place.invariant)
 
 pub returns : goal.returns
 returns g c =
     let spell = g.P.Printer.spell in
-    let old = c.args.text.now.bytes.items in
     let paths = map path_stages c.in-Some.paths.now.items in
-    let es = listed path_events paths in
-    let begin = count_line [] (codes "resolve undo") (length paths) ∷ begin_array (next (codes "resolve_undo")) ∷ [] in
-    let first = first_sent spell old begin c.requires
-    (rw (c.as_slice-paths.ensures.value, sym (length-map c.in-Some.paths.now.items path_stages))
-    at c.in_ok-put_all.ensures) in
-    rw c.in-Some.is (done_as (told_then spell old (begin ++ es) (end_array ∷ [])
-    (sent_then spell old begin es (Ok _) first (rw c.as_slice-paths.ensures.value at c.in_ok-write_each.ensures))
-    (one_told spell _ _ c.in_ok-put-2.ensures)))
+    rw c.in-Some.is (ends_sent g.W.Out c.args.out.now spell path_events path_stages c.args.text.now.bytes.items
+    c.put_all.new.self.bytes.items
+    (begin (length paths)) (end_array ∷ []) c.deref-path-items.result.now paths
+    (counted spell c.args.text.now.bytes.items c.in_ok-put_all.ensures
+    (c.len.ensures ∙ sym c.deref-path-items.ensures.len
+    ∙ sym (length-map c.deref-path-items.result.now path_stages)
+    ∙ ap (λ ps. length (map path_stages ps)) c.deref-path-items.ensures.value))
+    (ap (map path_stages) c.deref-path-items.ensures.value) c.loop-place.place
+    (omega (arith, c.loop-place-test.false)) c.loop-place.invariant (one_told spell _ _ c.in_ok-put-2.ensures))

@@ -15,21 +15,16 @@ returns g c =
     let v = cache_of c.args.cache.now in
     let many = sym (length-map c.directories.result.now directory_value)
     ∙ ap (λ (ds : List DirectoryValue). length ds) c.directories.ensures in
-    (then_all spell r new (take 5 (cache_begin g.P.Printer.BACKWARDS v))
+    (then_all spell r new (take 5 (cache_begin v))
     (rw (
       many,
-      c.first.ensures,
-      c.identifier.ensures,
-      c.next.ensures,
       c.from.ensures,
       c.dir_flags.ensures,
-      c.next-name.ensures,
-      c.exclude_filename_per_dir.ensures,
+      c.identifier-id.ensures,
+      c.exclude_filename_per_dir-file.ensures,
     ) at c.in_ok-put_all.ensures)
-    (then_all spell r new
-    (exclude_events g.P.Printer.BACKWARDS (codes "info/exclude") (codes "info_exclude") v.preamble.info_exclude)
+    (then_all spell r new (exclude_events (codes "info/exclude") (codes "info_exclude") v.preamble.info_exclude)
     (rw c.info_exclude-info.ensures at c.in_ok-append_exclude.ensures)
-    (then_all spell r new
-    (exclude_events g.P.Printer.BACKWARDS (codes "excludes file") (codes "excludes_file") v.preamble.excludes_file)
+    (then_all spell r new (exclude_events (codes "excludes file") (codes "excludes_file") v.preamble.excludes_file)
     (rw c.excludes_file-excludes.ensures at c.in_ok-append_exclude-2.ensures)
     (end_one spell r new _ _ c.put.ensures)))).is

@@ -1,18 +1,20 @@
-use Rattle.std.proofs.Common.{◌++◌, ◌∙◌, ap, arith}
+use Rattle.std.proofs.Common.{arith, ◌∙◌, ap}
 use Rattle.bstr.specs.Owned.{bstring_bytes}
 use Rattle.index_text.proofs.Placed.{placed_more}
-use Rattle.index_events.specs.Event.{print}
 use Rattle.index_events.specs.Untracked.{name_events}
 use Rattle.index_events.proofs.Listed.{all_listed, shown}
+use Rattle.index_events.proofs.Steps.{three_told}
 use Rattle.index_events.proofs.untracked.append_names.Goals as goal
 
 pub loop-place-preserved : goal.loop-place-preserved
-loop-place-preserved g c = placed_more (shown g.P.Printer.spell name_events bstring_bytes) c.args.names.now
-    c.loop-place.place c.index-names-place.result c.args.text.now.bytes.items c.loop-place.text.bytes.items
-    c.append_name.new.text.bytes.items (omega (arith, c.loop-place-test.true)) c.loop-place.invariant
-    (c.in_ok-append_name.ensures
-    ∙ ap (λ b. c.loop-place.text.bytes.items ++ print g.P.Printer.spell (name_events c.loop-place.place b))
-    (c.as_bytes.ensures ∙ ap (λ b. bstring_bytes b) c.index-names-place.is))
+unfolding name_events
+loop-place-preserved g c =
+    placed_more (shown g.P.Printer.spell name_events bstring_bytes) c.args.names.now c.loop-place.place
+    c.index-names-place.result c.args.text.now.bytes.items c.loop-place.text.bytes.items
+    c.put-in-loop-place-2.new.text.bytes.items (omega (arith, c.loop-place-test.true)) c.loop-place.invariant
+    (three_told g.P.Printer.spell _ _ _ _ c.in_ok-put.ensures
+    (rw (c.as_bytes.ensures ∙ ap bstring_bytes c.index-names-place.is) at c.in_ok-put-2.ensures)
+    c.in_ok-put-3.ensures)
 
 pub returns : goal.returns
 returns g c = all_listed g.P.Printer.spell name_events bstring_bytes c.args.text.now.bytes.items

@@ -9,7 +9,7 @@ pub loop-index-preserved : goal.loop-index-preserved
 loop-index-preserved g c = placed_more (shown g.P.Printer.spell subdirectory_events (λ (n : ℕ). n)) c.args.places.now
     c.loop-index.index _ c.args.text.now.bytes.items c.loop-index.text.bytes.items c.put.new.text.bytes.items
     (omega (arith, c.loop-index-test.true)) c.loop-index.invariant
-    (one_told g.P.Printer.spell _ _ (rw c.element-field.ensures at c.in_ok-put.ensures))
+    (one_told g.P.Printer.spell _ _ c.in_ok-put.ensures)
 
 pub returns : goal.returns
 returns g c = self_listed g.P.Printer.spell subdirectory_events c.args.text.now.bytes.items

@@ -1,32 +1,71 @@
-use Rattle.std.proofs.Common.{Err, Ok, [], ◌∷◌, ◌++◌}
+use Rattle.std.proofs.Common.{None, [], ◌∷◌, ◌++◌, ◌∙◌, ap, arith}
 use Rattle.std.proofs.lemmas.Result.{err_from_is_err_and}
+use Rattle.index_text.proofs.Written.{placed_out}
+use Rattle.index_untracked.specs.Blocks.{directory_value}
 use Rattle.index_untracked.specs.Untracked.{cache_of}
-use Rattle.index_events.specs.Event.{end_array, end_object, listed}
-use Rattle.index_events.specs.Untracked.{cache_begin, cached_events}
-use Rattle.index_events.proofs.Chain.{first_sent, rest_unheld, rest_untold, sent_then}
+use Rattle.index_untracked.specs.declared.Directory.{Directory}
+use Rattle.index_events.specs.Event.{end_array, end_object, print}
+use Rattle.index_events.specs.Untracked.{cache_begin, cached_events, untracked_events}
+use Rattle.index_events.proofs.Chain.{done_as, first_sent}
+use Rattle.index_events.proofs.Listed.{shown}
+use Rattle.index_events.proofs.Loops.{ends_sent, ends_unheld, item_broken, item_unheld}
+use Rattle.index_events.proofs.Steps.{one_told}
 use Rattle.index_events.proofs.untracked.write_untracked.Goals as goal
 
-pub returns-in_err-write_each : goal.returns-in_err-write_each
-returns-in_err-write_each g c =
-    let v = cache_of c.in-Some.cache.now in
+pub returns-in_default : goal.returns-in_default
+returns-in_default g c =
     let spell = g.P.Printer.spell in
-    let old = c.args.text.now.bytes.items in
-    let es = listed (cached_events g.P.Printer.BACKWARDS) v.directories in
-    let begin = cache_begin g.P.Printer.BACKWARDS v in
-    let first = first_sent spell old begin c.requires c.in_ok-append_begin.ensures in
-    let p = err_from_is_err_and c.from_residual-in_err-write_each.result c.from_residual-in_err-write_each.ensures.1 in
-    rw (p.1, p.2, c.in-Some.is) (rest_untold spell old (begin ++ es) (end_array ∷ end_object ∷ []) _
-    (sent_then spell old begin es (Err _) first (rw c.directories.ensures at c.in_err-write_each.ensures)))
+    rw c.in_default.is (done_as (first_sent spell c.args.text.now.bytes.items (untracked_events None)
+    (one_told spell _ _ c.in_ok-put.ensures)))
 
-pub returns-in_err-put_ends : goal.returns-in_err-put_ends
-returns-in_err-put_ends g c =
+pub loop-place-preserved : goal.loop-place-preserved
+loop-place-preserved g c =
+    placed_out (shown g.P.Printer.spell cached_events directory_value) c.append_begin.new.text.bytes.items
+    c.directories-directory-items.result.now c.loop-place.place c.directory-item.result
+    (omega (arith, c.loop-place-test.true)) c.loop-place.invariant
+    (c.in_ok-append_directory.ensures ∙ ap (λ (x : Directory). c.loop-place.text.bytes.items
+    ++ print g.P.Printer.spell (cached_events c.loop-place.place (directory_value x))) c.directory-item.is)
+    c.in_ok-put_block.ensures.ok c.in_ok-put_block.ensures.has_failed c.in_ok-put_block.ensures.loan
+
+pub returns-in_err-append_directory : goal.returns-in_err-append_directory
+returns-in_err-append_directory g c =
     let v = cache_of c.in-Some.cache.now in
-    let spell = g.P.Printer.spell in
-    let old = c.args.text.now.bytes.items in
-    let es = listed (cached_events g.P.Printer.BACKWARDS) v.directories in
-    let begin = cache_begin g.P.Printer.BACKWARDS v in
-    let first = first_sent spell old begin c.requires c.in_ok-append_begin.ensures in
-    let r = c.from_residual-in_err-put_ends.result in
-    let p = err_from_is_err_and r c.from_residual-in_err-put_ends.ensures.1 in
-    rw c.in-Some.is (rest_unheld spell old (begin ++ es) (end_array ∷ end_object ∷ []) r p.1 p.2
-    (sent_then spell old begin es (Ok _) first (rw c.directories.ensures at c.in_ok-write_each.ensures)))
+    let p = err_from_is_err_and c.from_residual-in_err-append_directory.result
+    c.from_residual-in_err-append_directory.ensures.1 in
+    rw c.in-Some.is (item_unheld g.W.Out c.args.out.now g.P.Printer.spell cached_events directory_value
+    c.args.text.now.bytes.items c.append_begin.new.text.bytes.items (cache_begin v) (end_array ∷ end_object ∷ [])
+    c.directories-directory-items.result.now v.directories c.in_ok-append_begin.ensures
+    c.directories-directory-items.ensures _ c.loop-place.place p.1 p.2 c.loop-place.invariant)
+
+pub returns-in_err-put_block : goal.returns-in_err-put_block
+returns-in_err-put_block g c =
+    let v = cache_of c.in-Some.cache.now in
+    let p = err_from_is_err_and c.from_residual-in_err-put_block.result
+    c.from_residual-in_err-put_block.ensures.1 in
+    rw c.in-Some.is (item_broken g.W.Out c.args.out.now g.P.Printer.spell cached_events directory_value
+    c.args.text.now.bytes.items c.append_begin.new.text.bytes.items (cache_begin v) (end_array ∷ end_object ∷ [])
+    c.directories-directory-items.result.now v.directories c.in_ok-append_begin.ensures
+    c.directories-directory-items.ensures _ c.loop-place.place c.directory-item.result p.1
+    (omega (arith, c.loop-place-test.true)) c.loop-place.invariant
+    (c.in_ok-append_directory.ensures ∙ ap (λ (x : Directory). c.loop-place.text.bytes.items
+    ++ print g.P.Printer.spell (cached_events c.loop-place.place (directory_value x))) c.directory-item.is)
+    c.in_err-put_block.ensures.err c.in_err-put_block.ensures.has_failed c.in_err-put_block.ensures.loan)
+
+pub returns-in_err-put_all : goal.returns-in_err-put_all
+returns-in_err-put_all g c =
+    let v = cache_of c.in-Some.cache.now in
+    let p = err_from_is_err_and c.from_residual-in_err-put_all.result c.from_residual-in_err-put_all.ensures.1 in
+    rw c.in-Some.is (ends_unheld g.W.Out c.args.out.now g.P.Printer.spell cached_events directory_value
+    c.args.text.now.bytes.items c.append_begin.new.text.bytes.items (cache_begin v) (end_array ∷ end_object ∷ [])
+    c.directories-directory-items.result.now v.directories c.in_ok-append_begin.ensures
+    c.directories-directory-items.ensures _ c.loop-place.place p.1 p.2 (omega (arith, c.loop-place-test.false))
+    c.loop-place.invariant)
+
+pub returns : goal.returns
+returns g c =
+    let v = cache_of c.in-Some.cache.now in
+    rw c.in-Some.is (ends_sent g.W.Out c.args.out.now g.P.Printer.spell cached_events directory_value
+    c.args.text.now.bytes.items c.append_begin.new.text.bytes.items (cache_begin v) (end_array ∷ end_object ∷ [])
+    c.directories-directory-items.result.now v.directories c.in_ok-append_begin.ensures
+    c.directories-directory-items.ensures c.loop-place.place (omega (arith, c.loop-place-test.false))
+    c.loop-place.invariant c.in_ok-put_all.ensures)

@@ -27,14 +27,16 @@ returns-in_err-put_head g c =
           (item_parts (codes "FSMN") (monitor_bytes m) c.args.len c.requires.len) c.in_err-put_head.ensures;
     }
 
-pub put_content-requires-clause-size : goal.put_content-requires-clause-size
-put_content-requires-clause-size g c = omega (
-  arith,
-  monitor_len (lent_monitor c.args.token.now c.args.dirty),
-  c.requires.len,
-  c.from.ensures,
-  c.token_len.ensures.len,
-)
+pub put_content-requires : goal.put_content-requires
+put_content-requires g c = record {
+  size = omega (
+    arith,
+    monitor_len (lent_monitor c.args.token.now c.args.dirty),
+    c.requires.len,
+    c.from.ensures,
+    c.token_len.ensures.len,
+  );
+}
 
 pub returns : goal.returns
 returns g c =

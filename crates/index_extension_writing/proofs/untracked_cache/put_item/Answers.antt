@@ -15,9 +15,10 @@ returns-in_err-put_head g c =
           (item_parts (codes "UNTR") content c.args.len c.requires.len) c.in_err-put_head.ensures;
     }
 
-pub put_content-requires-clause-few : goal.put_content-requires-clause-few
-put_content-requires-clause-few g c =
-    omega (arith, many_bytes c.args.kind (cache_of c.args.cache.now), c.requires.len, c.ranges.len.fits)
+pub put_content-requires : goal.put_content-requires
+put_content-requires g c = record {
+  few = omega (arith, many_bytes c.args.kind (cache_of c.args.cache.now), c.requires.len, c.ranges.len.fits);
+}
 
 pub returns : goal.returns
 returns g c =

@@ -7,7 +7,7 @@ use Rattle.index_extension_writing.proofs.untracked_cache.put_stats.Given as goa
 -- the ones before this one were taken
 abbrev pub invariant-loop-directory : goal.invariant-loop-directory
 invariant-loop-directory g l = record {
-  unfailed : g.W.Out.failed l.out ≡ false;
+  going : g.W.Out.failed l.fn.out ≡ false → g.W.Out.failed l.out ≡ false;
   loan : g.W.Out.loan l.out ≡ g.W.Out.loan l.fn.out;
   so_far : Took g.W.Out.taken g.W.Out.hashed l.fn.out l.out (flat_map (λ d. valid_stat d.stat) (take l.directory-index l.directories));
 }

@@ -1,12 +1,8 @@
 use Rattle.std.proofs.Common.{ap, refl, ◌∙◌, length, List}
 use Rattle.gix_index.specs.Record.{Record}
 use Rattle.index_inspect.proofs.Covered.{covered_of}
-use Rattle.index_inspect.proofs.Fronts.{front_divides, front_rest, header_long}
+use Rattle.index_inspect.proofs.Fronts.{front_divides}
 use Rattle.index_inspect.proofs.division.divide.Goals as goal
-
-pub overflow_sub-offset : goal.overflow_sub-offset
-overflow_sub-offset c = front_rest _ c.args.kind _ c.args.bytes.now _ _ _
-    (header_long c.args.kind c.args.bytes.now _ c.in-Ok.ensures.0) c.in_ok-parts.ensures
 
 pub returns-clause-divided : goal.returns-clause-divided
 returns-clause-divided c = front_divides _ c.args.kind _ _ _ c.args.bytes.now _ _ _ c.in_ok-parts-2.field-0

@@ -8,8 +8,8 @@ returns c =
     let behind = c.split_at.result.1.now in
     let rs = c.entries_in.new.first.list.records in
     let rest = c.in_ok-rest.rest.now in
-    let start : AreEntries c.args.version c.args.kind None behind c.in_ok-list.list.records behind =
-    rw c.in_ok-list.ensures refl in
+    let start : AreEntries c.args.version c.args.kind None behind c.in_ok-first.first.list.records behind =
+    rw c.in_ok-first.ensures.0 refl in
     let read = subst (λ (b : List ℕ). AreEntries c.args.version c.args.kind None b rs rest) c.split_at.ensures.back
     (c.in_ok-rest.ensures.read behind start) in
     ends_division c.args.kind c.args.version c.args.bytes.now c.args.declared c.len.result

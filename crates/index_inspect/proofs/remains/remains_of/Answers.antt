@@ -21,10 +21,10 @@ returns-clause-remains c =
     (rw c.deref-3.ensures.value at c.first_fault-fault.ensures.offset)
     (rw c.deref-2.ensures.value at c.has_link-has_link.ensures) (rw c.deref.ensures.value at c.in_ok-link.ensures.link)
 
-pub marked-front-requires : goal.marked-front-requires
-marked-front-requires c =
+pub returns-clause-plain : goal.returns-clause-plain
+returns-clause-plain c =
     let d = c.in_ok-parts.field-0 in
     let front = c.from_entries in
-    index_itself c.args.kind d.entries.records front.result
+    c.marked-front.ensures.plain (index_itself c.args.kind d.entries.records front.result
     (read_index c.args.kind c.args.bytes.now d.entries.records d.parts.items d.fault _ front.result
-    (are_bytes c.args.bytes.now c.type_inv.bytes) c.in_ok-parts.ensures front.ensures.entries front.ensures.placed)
+    (are_bytes c.args.bytes.now c.type_inv.bytes) c.in_ok-parts.ensures front.ensures.entries front.ensures.placed))

@@ -10,28 +10,28 @@ use Rattle.index_inspect.proofs.salvage.joined.Goals as goal
 pub returns-then-is_some-clause-completed : goal.returns-then-is_some-clause-completed
 returns-then-is_some-clause-completed c = λ found.
     let some = subst IsSome c.link.ensures (linked _ c.link.result (sym c.is_some.ensures ∙ c.if-is_some.true)) in
-    stays _ found _ c.args.own _ c.requires.plain
+    stays _ found _ c.args.own _
     (unfit (link_of c.args.link) (contents c.args.shared) (contents c.args.own) _ (refl, c.requires.named) refl
     (nested some refl) refl refl)
 
 pub returns-in-Ok-clause-completed : goal.returns-in-Ok-clause-completed
 returns-in-Ok-clause-completed c = λ found.
     let e = c.dissolve_into.ensures in
+    let shared = c.requires.shared in
     joins (link_of c.args.link) found c.args.own c.dissolve_into.new.split c.args.shared c.requires.named
-    c.requires.plain c.requires.shared c.in-Ok.ensures.dissolved e.placed e.storable
+    shared (c.in-Ok.ensures.dissolved shared.placed) (λ p. e.placed p shared.placed) (e.storable shared.placed)
 
 pub returns-in-Err-Corrupt-clause-completed : goal.returns-in-Err-Corrupt-clause-completed
 returns-in-Err-Corrupt-clause-completed c = λ found.
     let says = rw c.in-Err-Corrupt.field-0-is at c.in-Err-Corrupt.ensures.fault in
     fits_not (link_of c.args.link) found c.args.own c.dissolve_into.new.split c.args.shared _ c.requires.named
-    c.requires.plain says c.in-Err-Corrupt.ensures.unchanged c.dissolve_into.ensures.placed
+    says c.in-Err-Corrupt.ensures.unchanged (λ p. c.dissolve_into.ensures.placed p c.requires.shared.placed)
 
 pub returns-in-Err-BitmapDecode-clause-completed : goal.returns-in-Err-BitmapDecode-clause-completed
 returns-in-Err-BitmapDecode-clause-completed c = λ found.
     let says = rw c.in-Err-BitmapDecode.field-0-is at c.in-Err-BitmapDecode.ensures.fault in
     fits_not (link_of c.args.link) found c.args.own c.dissolve_into.new.split c.args.shared _ c.requires.named
-    c.requires.plain says c.in-Err-BitmapDecode.ensures.unchanged
-    c.dissolve_into.ensures.placed
+    says c.in-Err-BitmapDecode.ensures.unchanged (λ p. c.dissolve_into.ensures.placed p c.requires.shared.placed)
 
 pub returns-in-Err-Memory-clause-memory : goal.returns-in-Err-Memory-clause-memory
 returns-in-Err-Memory-clause-memory c =

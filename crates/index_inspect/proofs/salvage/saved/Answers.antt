@@ -15,18 +15,16 @@ returns-then-are_whole-clause-saved c =
     (c.are_whole.ensures.0 c.if-are_whole.true))) in
     saved_itself own whole.ordered whole.named
 
-pub firsts-requires-clause-index : goal.firsts-requires-clause-index
-firsts-requires-clause-index c =
-    let e = c.in_ok-sort_entries.ensures in
-    index_itself _ _ _ (index_sorted _ _ c.args.state c.sort_entries.new.self c.requires e.others e.placed e.storable)
+pub returns-then-are_whole-clause-index : goal.returns-then-are_whole-clause-index
+returns-then-are_whole-clause-index c = λ h. h
 
 pub returns-clause-saved : goal.returns-clause-saved
 returns-clause-saved c = saved_sorted (records c.args.state) (records c.sort_entries.new.self) (records c.firsts.result)
-    c.in_ok-sort_entries.ensures.stable c.firsts.ensures.saved
+    c.in_ok-sort_entries.ensures.stable (c.firsts.ensures.saved c.in_ok-sort_entries.ensures.ordered)
 
 pub returns-clause-index : goal.returns-clause-index
-returns-clause-index c =
+returns-clause-index c = λ h.
     let e = c.in_ok-sort_entries.ensures in
-    let sorted = index_sorted _ _ c.args.state c.sort_entries.new.self c.requires e.others e.placed e.storable in
+    let sorted = index_sorted _ _ c.args.state c.sort_entries.new.self h e.others (e.placed h.placed) e.storable in
     subst (λ (k : Kind). IsIndexOf k (records c.firsts.result) c.firsts.result) (kind_is _ _ _ sorted)
-    c.firsts.ensures.index
+    (c.firsts.ensures.index e.ordered (index_itself _ _ _ sorted))

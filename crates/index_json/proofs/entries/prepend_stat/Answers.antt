@@ -1,14 +1,14 @@
 use Rattle.std.proofs.Common.{◌≡◌, List, ℕ, ◌++◌, append_assoc, arith, codes, drop}
-use Rattle.index_json.specs.EntryValues.{file_members, stat_value, time_members, time_value}
+use Rattle.index_json.specs.EntryValues.{stat_value, time_value}
 use Rattle.index_json.specs.Values.{member, number_member}
 use Rattle.index_json.proofs.entries.prepend_stat.Goals as goal
 
 grouped : (t c d i u g s e from : List ℕ) → t ++ (c ++ (d ++ (i ++ (u ++ (g ++ (s ++ (e ++ from)))))))
-    ≡ (((t ++ c) ++ ((((d ++ i) ++ u) ++ g) ++ s)) ++ e) ++ from
+    ≡ (((((((t ++ c) ++ d) ++ i) ++ u) ++ g) ++ s) ++ e) ++ from
 grouped t c d i u g s e from = simp append_assoc
 
 pub returns : goal.returns
-unfolding stat_value time_members file_members member
+unfolding stat_value member
 returns c =
     let end = c.prepend-end.ensures.prepends in
     let size = c.prepend_number-end.ensures in

@@ -1,8 +1,8 @@
-use Rattle.std.proofs.Common.{ℕ, List, ◌++◌, ◌∙◌, ap}
+use Rattle.std.proofs.Common.{ℕ, List, ◌++◌, ◌∙◌, ap, codes}
 use Rattle.std.proofs.lemmas.Result.{on_ok_weaker}
 use Rattle.index_events.specs.Event.{position_of}
 use Rattle.index_text.proofs.Appended.{two_more}
-use Rattle.index_json.specs.Values.{begin_of, bytes_position, hex_string, json_string}
+use Rattle.index_json.specs.Values.{begin_of, begin_with, hex_string, json_string}
 use Rattle.index_json.proofs.Strings.{bytes_are, text_is}
 use Rattle.index_json.proofs.values.append_text.Goals as goal
 
@@ -16,12 +16,12 @@ returns-in_ok-append_begin-in-Ok c =
     (text_is position c.args.bytes.now c.in-Ok.value.now c.in-Ok.ensures.cases.0 c.in-Ok.ensures.cases.1))
     c.append_string.ensures
 
-pub returns-in_ok-append_bytes_begin-in-Err : goal.returns-in_ok-append_bytes_begin-in-Err
-returns-in_ok-append_bytes_begin-in-Err c =
+pub returns-in_ok-append_begin-in-Err : goal.returns-in_ok-append_begin-in-Err
+returns-in_ok-append_begin-in-Err c =
     let old = c.args.text.now.items in
     let position = position_of c.args.member in
     on_ok_weaker c.append_bytes.result
-    (λ h. two_more old c.append_bytes_begin.new.text.items c.append_bytes.new.text.items
-    (begin_of (bytes_position position)) (hex_string c.args.bytes.now) c.in_ok-append_bytes_begin-in-Err.ensures h
+    (λ h. two_more old c.append_begin-in-Err.new.text.items c.append_bytes.new.text.items
+    (begin_with position (codes "_bytes\":")) (hex_string c.args.bytes.now) c.in_ok-append_begin-in-Err.ensures h
     ∙ ap (λ (l : List ℕ). old ++ l) (bytes_are position c.args.bytes.now c.in-Err.ensures.cases.0))
     c.append_bytes.ensures

@@ -1,16 +1,15 @@
-use Rattle.std.proofs.Common.{◌≡◌, false, take}
+use Rattle.std.proofs.Common.{◌≡◌, ◌++◌, Ok, take}
 use Rattle.std.specs.List.{flat_map}
 use Rattle.index_cached_tree.specs.Tree.{node_of}
+use Rattle.index_text.specs.Blocks.{PutsBlocks}
 use Rattle.index_lines.specs.Directories.{subtree_lines}
-use Rattle.index_lines.specs.DirectorySteps.{LetsOut}
 use Rattle.index_lines.proofs.trees.+directories.Given as goal
 
 -- the lines of the directories before this one came behind those that waited, and a front of all went out
 abbrev pub invariant-append_directories-loop-tree : goal.invariant-append_directories-loop-tree
 invariant-append_directories-loop-tree g l = record {
-  lines : LetsOut (g.W.Out.taken l.fn.out) (g.W.Out.taken l.out) l.fn.lines.items
-      (flat_map (λ t. subtree_lines l.style l.fn.front.items (node_of t)) (take l.tree-index l.trees)) l.lines.items;
-  front : l.front.items ≡ l.fn.front.items;
-  loan : g.W.Out.loan l.out ≡ g.W.Out.loan l.fn.out;
-  unfailed : g.W.Out.failed l.out ≡ false;
+  written : PutsBlocks {T = Unit {0}} g.W.Out l.fn.out l.out (Ok tt) l.lines.items
+      (l.fn.lines.items
+      ++ flat_map (λ t. subtree_lines l.style l.fn.front.items (node_of t)) (take l.tree-index l.trees));
+  kept : l.front.items ≡ l.fn.front.items;
 }

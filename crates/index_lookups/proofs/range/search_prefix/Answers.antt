@@ -1,14 +1,24 @@
-use Rattle.std.proofs.Common.{◌≡◌, ◌++◌, [], ℕ, List, subst}
-use Rattle.std.proofs.lemmas.List.{append-nil}
+use Rattle.std.proofs.Common.{◌≡◌, ◌++◌, [], ℕ, List, arith, length, map, subst}
+use Rattle.std.proofs.lemmas.List.{append-nil, length-map}
+use Rattle.std.specs.declared.cmp.Ordering.{Ordering}
+use Rattle.index_entries.specs.Record.{Record}
+use Rattle.index_search.specs.Prefix.{prefix_cmp}
 use Rattle.index_lookups.specs.Lookup.{insertion_of_path}
 use Rattle.index_lookups.proofs.RunsFound.{rising_prefixes, prefix_count}
+use Rattle.index_lookups.proofs.SearchAnswers.{halving_of}
 use Rattle.index_lookups.proofs.range.search_prefix.Goals as goal
 
-pub returns-clause-place : goal.returns-clause-place
-returns-clause-place c = λ o.
+pub returns : goal.returns
+returns c =
     let prefix = c.args.prefix.now in
     let rs = c.args.entries.now in
-    let place =
-    prefix_count (prefix ++ []) rs c.part.result.0 (c.part.ensures.parts (rising_prefixes (prefix ++ []) rs o)) in
+    let cmp : Record → Ordering = λ r. prefix_cmp (prefix ++ []) r.path in
     let P : List ℕ → Type 0 = λ p. c.part.result.0 ≡ insertion_of_path p rs in
-    subst P (append-nil prefix) place
+    record {
+      in_range = omega (arith, c.part.ensures.in_range, length-map rs cmp);
+      place = λ o. subst P (append-nil prefix) (prefix_count (prefix ++ []) rs c.part.result.0
+          (c.part.ensures.parts (rising_prefixes (prefix ++ []) rs o)));
+      count = halving_of (length (map cmp rs)) (length rs) c.part.result.1 (length-map rs cmp)
+          (omega (arith, c.part.ensures.count))
+          (λ some. c.part.ensures.at_least_one (omega (arith, some, length-map rs cmp)));
+    }

@@ -1,24 +1,18 @@
-use Rattle.std.proofs.Common.{map, sym, ◌∙◌}
+use Rattle.std.proofs.Common.{arith, length, map, sym, ◌-◌, ◌∙◌}
 use Rattle.std.proofs.lemmas.List.{length-map}
 use Rattle.index_lookups.specs.SearchSteps.{asked_cmp}
+use Rattle.index_lookups.specs.Searches.{IsHalving}
 use Rattle.index_search.proofs.Parting.{bracket_whole}
-use Rattle.index_search.proofs.OrderedAnswers.{equal_at, gap_at, rising_of}
+use Rattle.index_lookups.proofs.SearchAnswers.{asked_of, halving_of}
 use Rattle.index_lookups.proofs.search.search.Goals as goal
 
-pub returns-clause-found : goal.returns-clause-found
-returns-clause-found c = equal_at
-    (asked_cmp c.args.path.now c.args.stage) c.args.entries.now c.search_within.result.0 c.search_within.ensures.found
-
-pub returns-clause-first : goal.returns-clause-first
-returns-clause-first c = λ split.
+pub returns : goal.returns
+returns c =
     let cmp = asked_cmp c.args.path.now c.args.stage in
     let rs = c.args.entries.now in
-    c.search_within.ensures.first (rising_of cmp rs split)
-    (bracket_whole (map cmp rs) c.len.result (c.len.ensures ∙ sym (length-map rs cmp)))
-
-pub returns-clause-absent : goal.returns-clause-absent
-returns-clause-absent c =
-    let cmp = asked_cmp c.args.path.now c.args.stage in
-    let rs = c.args.entries.now in
-    gap_at cmp rs 0 c.len.result c.search_within.result.0 (bracket_whole (map cmp rs) c.len.result
-    (c.len.ensures ∙ sym (length-map rs cmp))) c.search_within.ensures.absent
+    let found = c.search_within in
+    asked_of (IsHalving (length rs)) c.args.path.now rs found.result c.args.stage 0 c.len.result
+    (bracket_whole (map cmp rs) c.len.result (c.len.ensures ∙ sym (length-map rs cmp))) (omega (arith, c.len.ensures))
+    found.ensures.found found.ensures.first found.ensures.in_range found.ensures.absent
+    (halving_of (c.len.result - 0) (length rs) found.result.1 (omega (arith, c.len.ensures)) found.ensures.count
+    (λ some. found.ensures.at_least_one (omega (arith, some, c.len.ensures))))

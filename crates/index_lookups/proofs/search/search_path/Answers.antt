@@ -1,9 +1,9 @@
-use Rattle.index_lookups.proofs.Lookup.{path_at, path_gap}
+use Rattle.std.proofs.Common.{length}
+use Rattle.index_lookups.specs.Searches.{IsHalving}
+use Rattle.index_lookups.proofs.SearchAnswers.{path_answer}
 use Rattle.index_lookups.proofs.search.search_path.Goals as goal
 
-pub returns-clause-found : goal.returns-clause-found
-returns-clause-found c = path_at c.args.path.now c.args.entries.now c.search.result.0 c.search.ensures.found
-
-pub returns-clause-absent : goal.returns-clause-absent
-returns-clause-absent c =
-    path_gap c.args.path.now c.args.entries.now c.search.result.0 c.search.ensures.in_range c.search.ensures.absent
+pub returns : goal.returns
+returns c =
+    let rs = c.args.entries.now in
+    path_answer (IsHalving (length rs)) c.args.path.now rs c.search.result c.search.ensures

@@ -7,7 +7,8 @@ pub loop-path-preserved : goal.loop-path-preserved
 loop-path-preserved g c =
     let rs = g.S.PathSearch.list c.args.searcher.now in
     let told =
-    λ (o : _). told_present _ rs c.search_path.result.0 c.search_path.ensures.found c.search_path.ensures.absent o
+    λ (o : _). told_present _ rs c.search_path.result.0 c.search_path.ensures.place.found
+    c.search_path.ensures.place.absent o
     ∙ sym c.is_ok.ensures.value in
     elim c.if-is_ok.branch [
       | then-is_ok w ↦ record {

@@ -2,9 +2,12 @@ use Rattle.std.proofs.Common.{arith, get_or, length, map, ◌∙◌, ◌<◌, �
 use Rattle.std.specs.Prelude.{◌&&◌}
 use Rattle.std.specs.List.{Contains}
 use Rattle.index_entries.specs.Record.{Record}
+use Rattle.index_entries.proofs.SharedFronts.{shared_within_second}
 use Rattle.index_lookups.specs.Closest.{is_directory}
+use Rattle.index_lookups.specs.Folded.{folded}
 use Rattle.index_lookups.specs.NameSteps.{named_value, visits}
 use Rattle.index_lookups.specs.WalkSteps.{span_value}
+use Rattle.index_lookups.proofs.Fronts.{folded_len}
 use Rattle.index_lookups.proofs.OpenSpans.{closed_all}
 use Rattle.index_lookups.proofs.WalkTurns.{asked_own, at_end, at_first, at_next, is_directory_of, not_asked}
 use Rattle.index_lookups.proofs.walk.directories_of.Goals as goal
@@ -32,6 +35,18 @@ step-requires-clause-place c =
     let there : Contains vs visit = (turn, within, c.visit_at-visit.ensures visit) in
     omega (arith, (c.requires.each visit there).0, c.len-turn-end.ensures)
 
+pub step-requires-clause-within : goal.step-requires-clause-within
+step-requires-clause-within c =
+    let i = c.args.ignore_case in
+    let last = c.loop-turn.last.now in
+    let name = c.visit_at-visit.result.name.now in
+    omega (
+      arith,
+      c.shared_names-shared.ensures,
+      shared_within_second (folded i last) (folded i name),
+      folded_len i name,
+    )
+
 pub loop-turn-preserved : goal.loop-turn-preserved
 loop-turn-preserved c =
     let rs = c.args.entries.now in
@@ -51,7 +66,7 @@ loop-turn-preserved c =
     (map span_value c.loop-turn.closed.items)
     (map span_value c.loop-turn.live.items) c.loop-turn.invariant visit stands c.shared_names-shared.result
     (map span_value c.step.new.closed.items) (map span_value c.step.new.live.items)
-    within c.visit_at-visit.ensures told c.shared_names-shared.ensures.value c.in_ok-step.ensures
+    within c.visit_at-visit.ensures told c.shared_names-shared.ensures c.in_ok-step.ensures
 
 pub returns : goal.returns
 returns c =

@@ -22,11 +22,7 @@ returns-then-to_ascii_lowercase c =
     let none = shared_other a b n c.loop-len-test.true c.if-len-b.true (λ e. c.if-to_ascii_lowercase.true
     (c.to_ascii_lowercase.ensures.value ∙ e ∙ sym c.to_ascii_lowercase-in-loop-len.ensures.value)) in
     let total : shared_len (folded true a) (folded true b) ≡ n = omega (arith, none, c.loop-len.invariant.value) in
-    record {
-      value = sym total ∙ ap (λ (i : Bool). shared_len (folded i a) (folded i b))
-          (sym c.if-not-ignore_case.false);
-      within = c.loop-len.invariant.second;
-    }
+    sym total ∙ ap (λ (i : Bool). shared_len (folded i a) (folded i b)) (sym c.if-not-ignore_case.false)
 
 pub loop-len-preserved : goal.loop-len-preserved
 loop-len-preserved c =
@@ -49,8 +45,4 @@ returns-else-len-b c =
     let none = shared_end (drop n (folded true a)) (drop n (folded true b))
     (inr (omega (arith, length-drop n (folded true b), length-map b to_ascii_lowercase))) in
     let total : shared_len (folded true a) (folded true b) ≡ n = omega (arith, none, c.loop-len.invariant.value) in
-    record {
-      value = sym total ∙ ap (λ (i : Bool). shared_len (folded i a) (folded i b))
-          (sym c.if-not-ignore_case.false);
-      within = c.loop-len.invariant.second;
-    }
+    sym total ∙ ap (λ (i : Bool). shared_len (folded i a) (folded i b)) (sym c.if-not-ignore_case.false)

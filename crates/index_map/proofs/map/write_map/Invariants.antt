@@ -1,4 +1,4 @@
-use Rattle.std.proofs.Common.{◌≡◌, Ok, false, take}
+use Rattle.std.proofs.Common.{Ok, take}
 use Rattle.std.specs.Prelude.{flat_map}
 use Rattle.index_text.specs.Blocks.{PutsBlocks}
 use Rattle.index_map.specs.Lines.{map_line}
@@ -6,8 +6,6 @@ use Rattle.index_map.proofs.map.write_map.Given as goal
 
 -- the lines of the parts before this one were written, or wait
 abbrev pub invariant-loop-part : goal.invariant-loop-part
-invariant-loop-part g l = record {
-  going : g.W.Out.failed l.out ≡ false;
-  lines : PutsBlocks {T = Unit {0}} g.W.Out l.fn.out l.out (Ok tt) l.lines.items
-      (flat_map (map_line l.style l.entries) (take l.part-index l.parts));
-}
+invariant-loop-part g l =
+    PutsBlocks {T = Unit {0}} g.W.Out l.fn.out l.out (Ok tt) l.lines.items
+    (flat_map (map_line l.style l.entries) (take l.part-index l.parts))

@@ -4,13 +4,11 @@ use Rattle.index_entries.specs.Record.{records_in}
 use Rattle.index_merge.proofs.Merging.{one_more}
 use Rattle.index_merge.proofs.merge.append_entries.Goals as goal
 
-pub append_entry-requires-clause-entry_placed : goal.append_entry-requires-clause-entry_placed
-append_entry-requires-clause-entry_placed c = c.requires.split_placed c.loop-entry.entry-index _ c.loop-entry-test.true
-
 pub loop-entry-init : goal.loop-entry-init
 loop-entry-init c = record {
-  appended = sym (append-nil (records_in c.args.storage.now.items c.args.entries.now.items));
-  placed = c.requires.placed;
+  count = omega arith;
+  appended = λ _. sym (append-nil (records_in c.args.storage.now.items c.args.entries.now.items));
+  placed = λ placed. placed;
 }
 
 pub loop-entry-preserved : goal.loop-entry-preserved
@@ -18,10 +16,13 @@ loop-entry-preserved c =
     let split = c.args.split.now in
     let i = c.loop-entry.entry-index in
     let own = records_in c.args.storage.now.items c.args.entries.now.items in
+    let inv = c.loop-entry.invariant in
+    let joins = c.in_ok-append_entry.ensures in
     record {
-      appended = c.in_ok-append_entry.ensures.appended
-          ∙ one_more own c.args.split_storage.now split i _ _ c.loop-entry-test.true c.loop-entry.invariant.appended;
-      placed = c.in_ok-append_entry.ensures.placed;
+      count = omega (arith, inv.count, joins.count);
+      appended = λ placed. joins.appended (inv.placed placed)
+          ∙ one_more own c.args.split_storage.now split i _ _ c.loop-entry-test.true (inv.appended placed);
+      placed = λ placed. joins.placed (inv.placed placed);
     }
 
 pub returns : goal.returns
@@ -29,8 +30,10 @@ returns c =
     let split = c.args.split.now in
     let i = c.loop-entry.entry-index in
     let all : take i split ≡ split = take_all i split (omega arith) in
+    let inv = c.loop-entry.invariant in
     record {
-      appended = c.loop-entry.invariant.appended ∙ ap (λ l. records_in c.args.storage.now.items c.args.entries.now.items
+      count = omega (arith, inv.count);
+      appended = λ placed. inv.appended placed ∙ ap (λ l. records_in c.args.storage.now.items c.args.entries.now.items
           ++ records_in c.args.split_storage.now l) all;
-      placed = c.loop-entry.invariant.placed;
+      placed = inv.placed;
     }

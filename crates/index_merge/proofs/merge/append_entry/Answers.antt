@@ -1,3 +1,5 @@
+use Rattle.std.proofs.Common.{◌∷◌, [], ap, length, ◌∙◌}
+use Rattle.std.proofs.lemmas.List.{length-append}
 use Rattle.index_entries.specs.Record.{Record, record_in}
 use Rattle.index_entries.proofs.Appended.{appended_placed, appended_records}
 use Rattle.index_merge.proofs.merge.append_entry.Goals as goal
@@ -5,8 +7,9 @@ use Rattle.index_merge.proofs.merge.append_entry.Goals as goal
 pub returns : goal.returns
 returns c =
     let r : Record = record_in c.args.split_storage.now c.args.entry.now in
+    let a = c.in_ok-append.ensures.appended in
     record {
-      appended =
-          appended_records _ _ r _ _ c.requires.placed (rw c.path_in-path.ensures at c.in_ok-append.ensures.appended);
-      placed = appended_placed _ _ _ _ _ c.requires.placed c.in_ok-append.ensures.appended;
+      count = ap length a.entries ∙ length-append c.args.entries.now.items (a.entry ∷ []);
+      appended = λ placed. appended_records _ _ r _ _ placed (rw c.path_in-path.ensures at a);
+      placed = λ placed. appended_placed _ _ _ _ _ placed a;
     }

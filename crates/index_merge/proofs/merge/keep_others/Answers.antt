@@ -1,4 +1,3 @@
-use Rattle.std.proofs.Common.{length}
 use Rattle.std.proofs.lemmas.List.Elements.{All-filter}
 use Rattle.index_entries.specs.Record.{IsPlaced}
 use Rattle.index_merge.proofs.Merging.{stays, kept_all, marked_placed}
@@ -10,7 +9,6 @@ returns-clause-retained c = rw c.drop_removed.ensures (kept_all c.args.storage.n
 
 pub returns-clause-placed : goal.returns-clause-placed
 returns-clause-placed c =
-    let len = length c.args.storage.now in
-    rw c.drop_removed.ensures
+    λ len placed. rw c.drop_removed.ensures
     (All-filter stays (IsPlaced len) c.mark_deleted.new.entries.items (marked_placed len _ c.args.entries.now.items
-    c.mark_deleted.new.entries.items c.in_ok-mark_deleted.ensures.marked.marked c.requires))
+    c.mark_deleted.new.entries.items c.in_ok-mark_deleted.ensures.marked.marked placed))

@@ -48,6 +48,6 @@ returns c =
       replaced = c.take_at.ensures.replaced c.args.storage.now c.args.split_storage.now
           ∙ ap (λ o. changed_at (λ r. replaced r o) c.args.place (records_in c.args.storage.now c.args.shared.now.items))
           (sym (record_there c.args.split_storage.now c.args.split.now c.args.taken _ c.if-taken-split.false));
-      placed = c.take_at.ensures.placed _ c.requires.placed;
+      placed = c.take_at.ensures.placed;
       fault = search rules;
     }

@@ -23,7 +23,7 @@ loop-position-init c =
       replaced = sym (no_candidates (records_in
           c.args.split_storage.now c.args.split.now) 0 (records_in c.args.storage.now c.args.shared.now.items));
     } in
-    (search rules, search rules, run, c.requires.placed, omega arith)
+    (search rules, search rules, run, λ len placed. placed, omega arith)
 
 pub loop-position-preserved : goal.loop-position-preserved
 loop-position-preserved c =
@@ -34,7 +34,7 @@ loop-position-preserved c =
       search rules,
       search rules,
       replacing_step _ _ _ _ rest _ _ inv.2 c.in-Ok.place _ step done.sound done.replaced,
-      done.placed,
+      λ len placed. done.placed len (inv.3 len placed),
       omega (arith, done.in_range),
     )
 

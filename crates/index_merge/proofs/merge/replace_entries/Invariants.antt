@@ -1,8 +1,9 @@
-use Rattle.std.proofs.Common.{◌≤◌, All, length}
+use Rattle.std.proofs.Common.{◌≤◌, length}
 use Rattle.index_bitmaps.specs.Bitmap.{bitmap}
 use Rattle.index_bitmaps.specs.UnpackingSteps.{items_left}
 use Rattle.index_merge.proofs.MergeLoops.{IsReplacing}
-use Rattle.index_entries.specs.Record.{IsPlaced, records_in}
+use Rattle.index_entries.specs.Record.{records_in}
+use Rattle.index_merge.specs.MergeCalls.{StayPlaced}
 use Rattle.index_merge.proofs.merge.replace_entries.Given as goal
 
 abbrev pub invariant-loop-position : goal.invariant-loop-position
@@ -10,5 +11,5 @@ invariant-loop-position l =
     (goal.iterator-loop-position).can_next l.positions × (goal.iterator-loop-position).is_finite l.positions
     × IsReplacing (bitmap l.replace).words (records_in l.storage l.fn.shared.items) (records_in l.split_storage l.split)
     (items_left l.positions) l.taken (records_in l.storage l.shared.items)
-    × All (IsPlaced (length l.storage)) l.shared.items
+    × StayPlaced l.fn.shared.items l.shared.items
     × (l.taken ≤ length l.split)

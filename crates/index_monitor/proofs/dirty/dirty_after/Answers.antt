@@ -17,12 +17,14 @@ returns-clause-is c = λ o.
     let within : monitor_is_within (length old) m ≡ true =
     ap (λ n. monitor_is_within n m) (sym c.len.ensures) ∙ sym c.is_within.ensures ∙ c.if-not-is_within.false in
     let few : length rs < 2 ^ 32 = omega (arith, c.if-len-gt-MOST_ENTRIES.false, c.len-2.ensures) in
+    let fit : length c.deref_mut.result.now ≡ length rs =
+    omega (arith, c.deref_mut.ensures.len, c.in_ok-resize.ensures.len, c.len-3.ensures) in
     let none = cleared c.len-3.result _ c.new-bits.result.items c.resize.new.self.items c.new-bits.ensures.items
     c.new-bits.ensures.len c.in_ok-resize.ensures.items in
     all_dirty c.args.changes.now old rs m _ c.resize.new.self.len c.resize.new.self.items c.mark_dirty.new.bits
     c.deref.result.now within few (none ∙ ap (λ k. replicate k false) c.len-3.ensures)
     (c.mark_dirty.ensures.len ∙ ap length c.deref_mut.ensures.value) (sym c.deref_mut.ensures.len ∙ ap length c.deref_mut.ensures.value)
-    (λ b. c.mark_dirty.ensures.marked o (ap (λ v. are_below (length old) (set_places (bitmap v))) c.entry_dirty.ensures ∙ b)
+    (λ b. c.mark_dirty.ensures.marked fit o (ap (λ v. are_below (length old) (set_places (bitmap v))) c.entry_dirty.ensures ∙ b)
     ∙ ap (λ l. either l (map (is_dirty c.args.changes.now old (set_places (bitmap c.entry_dirty.result.now))) rs)) c.deref_mut.ensures.value
     ∙ ap (λ v. either c.resize.new.self.items (map (is_dirty c.args.changes.now old (set_places (bitmap v))) rs)) c.entry_dirty.ensures)
     c.deref.ensures.value c.in_ok-bitmap_of.ensures

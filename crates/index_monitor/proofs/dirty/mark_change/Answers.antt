@@ -5,6 +5,6 @@ use Rattle.index_monitor.proofs.dirty.mark_change.Goals as goal
 pub returns-in_default : goal.returns-in_default
 returns-in_default c = record {
   len = search rules;
-  marked = λ o.
-      none_staged c.args.change.now c.args.entries.now c.args.bits.now c.requires (λ r. rw c.in_default.is refl);
+  marked = λ e o.
+      none_staged c.args.change.now c.args.entries.now c.args.bits.now e (λ r. rw c.in_default.is refl);
 }

@@ -8,7 +8,7 @@ use Rattle.index_monitor.proofs.dirty.mark_changes.Given as goal
 -- the bits of the entries that the changes so far stage are set
 abbrev pub invariant-loop-change : goal.invariant-loop-change
 invariant-loop-change l = record {
-  len : length l.bits ≡ length l.entries;
-  marked : IsStrictlyOrdered l.entries → l.bits ≡ either l.initial.bits
+  len : length l.bits ≡ length l.initial.bits;
+  marked : length l.initial.bits ≡ length l.entries → IsStrictlyOrdered l.entries → l.bits ≡ either l.initial.bits
       (map (λ r. list_any (λ c. is_replaced c r) (take l.change-index l.changes)) l.entries);
 }

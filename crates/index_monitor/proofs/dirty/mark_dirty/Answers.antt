@@ -1,4 +1,4 @@
-use Rattle.std.proofs.Common.{rules}
+use Rattle.std.proofs.Common.{rules, ◌∙◌}
 use Rattle.index_bitmaps.specs.Bitmap.{bitmap}
 use Rattle.index_bitmaps.specs.Ranges.{set_places}
 use Rattle.index_monitor.proofs.Markings.{both_marked}
@@ -7,7 +7,8 @@ use Rattle.index_monitor.proofs.dirty.mark_dirty.Goals as goal
 pub returns : goal.returns
 returns c = record {
   len = search rules;
-  marked = λ o b.
+  marked = λ e o b.
       both_marked c.args.changes.now c.args.old.now c.args.entries.now (set_places (bitmap c.args.places.now))
-      c.args.bits.now _ _ (c.mark_places.ensures.marked o b) (c.mark_changes.ensures.marked o);
+      c.args.bits.now _ _ (c.mark_places.ensures.marked e o b)
+      (c.mark_changes.ensures.marked (c.mark_places.ensures.len ∙ e) o);
 }

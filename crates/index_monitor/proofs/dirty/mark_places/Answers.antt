@@ -1,4 +1,4 @@
-use Rattle.std.proofs.Common.{◌∙◌, ◌∷◌, ◌<◌, Result, ap, arith, length, map, rules, sym, ℕ}
+use Rattle.std.proofs.Common.{◌∙◌, ◌∷◌, ◌<◌, Result, ap, arith, length, map, refl, rules, sym, ℕ}
 use Rattle.std.specs.List.{list_any}
 use Rattle.index_bitmaps.specs.Bitmap.{bitmap}
 use Rattle.index_bitmaps.specs.UnpackingSteps.{items_left}
@@ -19,15 +19,15 @@ loop-position-init c =
     record {
       can_next = search rules;
       is_finite = search rules;
-      len = c.requires;
+      len = refl;
       below = λ b. ap (are_below (length old)) same ∙ b;
-      marked = λ o b. ap (λ items. either c.args.bits.now (map (λ r. list_any (is_at_place old r) items) c.args.entries.now)) same;
+      marked = λ _ o b. ap (λ items. either c.args.bits.now (map (λ r. list_any (is_at_place old r) items) c.args.entries.now)) same;
     }
 
 pub returns-in_default-position : goal.returns-in_default-position
 returns-in_default-position c = record {
   len = search rules;
-  marked = λ o b.
+  marked = λ _ o b.
       let rest = items_left c.next.new.self in
       let step = c.in-Some.ensures.steps ∙ ap (λ (x : Result ℕ Malformed). x ∷ rest) c.in_default-position.is in
       absurd (broken (length c.args.old.now) _ _ rest step (c.loop-position.invariant.below b));
@@ -36,7 +36,7 @@ returns-in_default-position c = record {
 pub returns-then-place-len : goal.returns-then-place-len
 returns-then-place-len c = record {
   len = search rules;
-  marked = λ o b.
+  marked = λ _ o b.
       let rest = items_left c.next.new.self in
       let step = c.in-Some.ensures.steps ∙ ap (λ (x : Result ℕ Malformed). x ∷ rest) c.in-Ok.is in
       absurd (past (length c.args.old.now) c.in-Ok.place _ rest step
@@ -54,16 +54,16 @@ loop-position-preserved c =
       is_finite = search rules;
       len = c.set_bit.ensures.len ∙ c.loop-position.invariant.len;
       below = λ b. taken (length old) c.in-Ok.place _ rest step inside (c.loop-position.invariant.below b);
-      marked = λ o b. one_placed old c.args.entries.now c.in-Ok.place c.path.result.now (stage_code c.stage.result) _ rest _
+      marked = λ e o b. one_placed old c.args.entries.now c.in-Ok.place c.path.result.now (stage_code c.stage.result) _ rest _
           c.loop-position.bits c.set_bit.new.bits inside c.path.ensures
           (λ d. ap stage_number ((c.entry.ensures d).flags) ∙ sym (ap stage_code c.stage.ensures ∙ stage_is _))
-          step (c.set_bit.ensures.marked o) (c.loop-position.invariant.marked o b);
+          step (c.set_bit.ensures.marked (c.loop-position.invariant.len ∙ e) o) (c.loop-position.invariant.marked e o b);
     }
 
 pub returns : goal.returns
 returns c = record {
   len = search rules;
-  marked = λ o b.
-      none_left c.args.old.now c.args.entries.now _ c.loop-position.bits _ c.loop-position.invariant.len
-      c.in_default.ensures.steps.0 (c.loop-position.invariant.marked o b);
+  marked = λ e o b.
+      none_left c.args.old.now c.args.entries.now _ c.loop-position.bits _ (c.loop-position.invariant.len ∙ e)
+      c.in_default.ensures.steps.0 (c.loop-position.invariant.marked e o b);
 }

@@ -14,10 +14,11 @@ abbrev pub invariant-loop-position : goal.invariant-loop-position
 invariant-loop-position l = record {
   can_next : (goal.iterator-loop-position).can_next l.positions;
   is_finite : (goal.iterator-loop-position).is_finite l.positions;
-  len : length l.bits ≡ length l.entries;
+  len : length l.bits ≡ length l.initial.bits;
   below : are_below (length l.old) (set_places (bitmap l.places)) ≡ true
       → are_below (length l.old) (items_left l.positions) ≡ true;
-  marked : IsStrictlyOrdered l.entries → are_below (length l.old) (set_places (bitmap l.places)) ≡ true
+  marked : length l.initial.bits ≡ length l.entries → IsStrictlyOrdered l.entries
+      → are_below (length l.old) (set_places (bitmap l.places)) ≡ true
       → either l.bits (map (λ r. list_any (is_at_place l.old r) (items_left l.positions)) l.entries)
       ≡ either l.initial.bits (map (λ r. list_any (is_at_place l.old r) (set_places (bitmap l.places))) l.entries);
 }

@@ -1,20 +1,26 @@
-use Rattle.std.proofs.Common.{rules}
+use Rattle.std.proofs.Common.{arith, refl, rules}
 use Rattle.index_metadata.specs.Flags.{stage_code}
 use Rattle.index_monitor.proofs.Markings.{no_key, set_key}
 use Rattle.index_monitor.proofs.dirty.set_bit.Goals as goal
 
-pub returns-in-Some : goal.returns-in-Some
-returns-in-Some c = record {
+pub returns-then-place-bits : goal.returns-then-place-bits
+returns-then-place-bits c = record {
   len = search rules;
-  marked = λ o.
-      set_key c.args.path.now (stage_code c.args.stage) c.args.entries.now c.args.bits.now c.in-Some.place c.requires o
+  marked = λ e o.
+      set_key c.args.path.now (stage_code c.args.stage) c.args.entries.now c.args.bits.now c.in-Some.place e o
       c.in-Some.ensures.found;
+}
+
+pub returns-else-place-bits : goal.returns-else-place-bits
+returns-else-place-bits c = record {
+  len = refl;
+  marked = λ e o. absurd (omega (arith, e, c.if-place-bits.false, c.in-Some.ensures.found.in_range));
 }
 
 pub returns-in_default : goal.returns-in_default
 returns-in_default c = record {
   len = search rules;
-  marked = λ o.
-      no_key c.args.path.now (stage_code c.args.stage) c.args.entries.now c.args.bits.now c.requires
+  marked = λ e o.
+      no_key c.args.path.now (stage_code c.args.stage) c.args.entries.now c.args.bits.now e
       (c.in_default.ensures.answer o) o;
 }

@@ -1,13 +1,11 @@
-use Rattle.std.proofs.Common.{◌≡◌, false, take}
+use Rattle.std.proofs.Common.{Ok, take}
 use Rattle.std.specs.Prelude.{flat_map}
-use Rattle.index_text.specs.Blocks.{Passes}
+use Rattle.index_text.specs.Blocks.{PutsBlocks}
 use Rattle.index_picture.specs.Picture.{row}
 use Rattle.index_picture.proofs.picture.write_rows.Given as goal
 
+-- the rows of the parts before this one were written, or wait
 abbrev pub invariant-loop-part : goal.invariant-loop-part
-invariant-loop-part g l = record {
-  loan : g.W.Out.loan l.out ≡ g.W.Out.loan l.fn.out;
-  unfailed : g.W.Out.failed l.out ≡ false;
-  lines : Passes (g.W.Out.taken l.fn.out) (g.W.Out.taken l.out) l.lines.items
-      (flat_map (row l.each l.entries) (take l.part-index l.boxes));
-}
+invariant-loop-part g l =
+    PutsBlocks {T = Unit {0}} g.W.Out l.fn.out l.out (Ok tt) l.lines.items
+    (flat_map (row l.each l.entries) (take l.part-index l.boxes))

@@ -18,7 +18,7 @@ returns-clause-filtered_by_place g c = left_by_place g.F.FnMut _ _ _ _ _ (return
 
 pub returns-clause-placed : goal.returns-clause-placed
 returns-clause-placed g c =
-    λ leaves. left_placed g.F.FnMut _ _ _ _ _ (returns-clause-removed g c).calls leaves c.requires.placed
+    λ leaves placed. left_placed g.F.FnMut _ _ _ _ _ (returns-clause-removed g c).calls leaves placed
 
 pub returns-clause-storable : goal.returns-clause-storable
 returns-clause-storable g c = λ leaves h. flags_storable (contents c.args.self.now)

@@ -16,7 +16,7 @@ returns c =
     c.sort.ensures.permutation in
     record {
       placed = All-permutation (IsPlaced (length (storage_of old))) (entries_of old) c.sort.new.entries.items
-          c.sort.ensures.permutation c.requires;
+          c.sort.ensures.permutation;
       permutation = moved;
       ordered = rw c.deref.ensures.value at c.in_ok-sort.ensures.ordered;
       stable = search rules;

@@ -12,7 +12,7 @@ returns g c =
     c.sort_by.ensures.permutation in
     record {
       placed = All-permutation (IsPlaced (length (storage_of old))) (entries_of old) c.sort_by.new.entries.items
-          c.sort_by.ensures.permutation c.requires.placed;
+          c.sort_by.ensures.permutation;
       permutation = moved;
       ordered = rw c.deref.ensures.value at c.in_ok-sort_by.ensures.ordered;
       ties = search rules;

@@ -2,7 +2,7 @@ use Rattle.std.proofs.Common.{rules, ◌≡◌, None, refl, ap}
 use Rattle.std.specs.Option.{option_map}
 use Rattle.index_split.specs.Link.{link_of, pair_of}
 use Rattle.index_state.specs.State.{contents, entries_of, storage_of}
-use Rattle.index_state.proofs.Merges.{merged_ids, merged_storable, says_dissolve}
+use Rattle.index_state.proofs.Merges.{dissolved_by, merged_ids, merged_storable, says_dissolve}
 use Rattle.index_state.proofs.dissolve.merge_shared.Goals as goal
 
 pub returns-in-Err : goal.returns-in-Err
@@ -24,17 +24,20 @@ returns-in-Err c =
 
 pub returns : goal.returns
 returns c =
-    let m = rw (c.entries.ensures, c.path_backing.ensures) at c.in_default-merge.ensures.merged in
+    let none : c.args.shared.parts.extensions.link ≡ None = search rules in
+    let merged = rw (c.entries.ensures, c.path_backing.ensures) at c.in_default-merge.ensures.merged in
     record {
-      dissolved = search rules;
+      dissolved = λ placed. dissolved_by (link_of c.args.link.now) (pair_of c.in-Some.bitmaps) (contents c.args.shared)
+          (contents c.args.split.now) _ (ap (option_map link_of) none) (ap (option_map pair_of) c.in-Some.is)
+          (record { is = merged placed; others = refl });
       without_bitmaps = search rules;
       no_memory = search rules;
-      placed = search rules;
-      ids = λ kind mine theirs. merged_ids kind _ _ (storage_of c.args.shared) (storage_of c.args.split.now)
-          c.merge.new.storage.items (entries_of c.args.shared) (entries_of c.args.split.now) c.merge.new.entries.items m
-          mine theirs;
-      storable = λ mine theirs same. merged_storable (pair_of c.in-Some.bitmaps) (contents c.args.shared)
-          (contents c.args.split.now) _ (record { is = m; others = refl }) mine theirs same;
+      placed = λ own placed. c.in_default-merge.ensures.placed placed;
+      ids = λ placed kind mine theirs. merged_ids kind _ _ (storage_of c.args.shared) (storage_of c.args.split.now)
+          c.merge.new.storage.items (entries_of c.args.shared) (entries_of c.args.split.now) c.merge.new.entries.items
+          (merged placed) mine theirs;
+      storable = λ placed mine theirs same. merged_storable (pair_of c.in-Some.bitmaps) (contents c.args.shared)
+          (contents c.args.split.now) _ (record { is = merged placed; others = refl }) mine theirs same;
       fault = search rules;
       unchanged = search rules;
     }

@@ -9,9 +9,8 @@ use Rattle.index_table.proofs.filling.path_bytes_of.Goals as goal
 pub returns-in_err-sum : goal.returns-in_err-sum
 returns-in_err-sum c =
     c.from_residual.ensures
-    ∙ too_many c.args.storage.now c.args.entries.now c.loop-place.place c.loop-place.sum _ c.path_range.result.start
-    c.path_range.result.end c.loop-place-test.true c.path_range.ensures.start c.path_range.ensures.end
-    c.loop-place.invariant.sum_is c.in_err-sum.ensures
+    ∙ too_many c.args.storage.now c.args.entries.now c.loop-place.place c.loop-place.sum _ c.path_in-path.result.now
+    c.loop-place-test.true c.path_in-path.ensures c.loop-place.invariant.sum_is c.in_err-sum.ensures
 
 pub returns : goal.returns
 returns c =

@@ -6,19 +6,19 @@ use Rattle.index_table.specs.declared.over.CachedTree.TheVariants.{Absent}
 use Rattle.index_table.proofs.Trees.{keeps_by, keeps_right, keeps_wrong}
 use Rattle.index_table.proofs.over.keep_tree.Goals as goal
 
-pub returns-in_default-clause-keeps : goal.returns-in_default-clause-keeps
-returns-in_default-clause-keeps c =
+pub returns-in_default : goal.returns-in_default
+returns-in_default c =
     let v = contents c.args.state.now in
     keeps_by None v v Absent (sym c.tree.ensures ∙ ap (option_map (λ t. node_of t.now)) c.in_default.is) (refl, refl)
 
-pub returns-in-Ok-clause-keeps : goal.returns-in-Ok-clause-keeps
-returns-in-Ok-clause-keeps c =
+pub returns-in-Ok : goal.returns-in-Ok
+returns-in-Ok c =
     let v = contents c.args.state.now in
     let there = sym c.tree.ensures ∙ ap (option_map (λ t. node_of t.now)) c.in-Some.is in
-    keeps_right v.extensions.tree v (contents c.put_in_anew.new.state) (λ e. cc) c.put_in_anew.ensures.value c.in-Ok.ensures.right c.in-Ok.ensures.fit c.in-Ok.ensures.few
+    keeps_right v.extensions.tree v (contents c.put_in_anew.new.state) (λ e. cc) c.put_in_anew.ensures c.in-Ok.ensures.right c.in-Ok.ensures.fit c.in-Ok.ensures.few
 
-pub returns-clause-keeps : goal.returns-clause-keeps
-returns-clause-keeps c =
+pub returns : goal.returns
+returns c =
     let v = contents c.args.state.now in
     keeps_wrong v.extensions.tree v (contents c.remove_tree.new.self) c.in-Err.e
     (sym c.is_want_of_memory.ensures ∙ c.if-is_want_of_memory.false)

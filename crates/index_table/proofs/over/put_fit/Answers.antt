@@ -13,10 +13,10 @@ use Rattle.index_table.proofs.Results.{passed_weaker, refused_weaker}
 use Rattle.index_table.proofs.Writes.{can_encode, limit_only}
 use Rattle.index_table.proofs.over.put_fit.Goals as goal
 
-pub keep_tree-requires-clause-ordered : goal.keep_tree-requires-clause-ordered
-keep_tree-requires-clause-ordered c =
+pub keep_tree-requires : goal.keep_tree-requires
+keep_tree-requires c =
     subst IsStrictlyOrdered (sym (written_records (contents c.args.state) (contents c.replace.new.state)
-    c.args.paths.now c.args.rows.now c.in_default.ensures.value)) c.requires.table.ordered
+    c.args.paths.now c.args.rows.now c.in_default.ensures)) c.requires.ordered
 
 pub returns : goal.returns
 returns c =
@@ -29,24 +29,24 @@ returns c =
           (Holds (full_options c.args.format.now) x) (contents c.args.state))
           (λ x h. replaces c.args.format.now.kind c.args.paths.now c.args.rows.now (contents c.args.state)
           (contents c.replace.new.state) value c.in-Some.tree (Holds (full_options c.args.format.now) x)
-          c.requires.table c.in_default.ensures.value c.in-Some.ensures.keeps
+          c.requires c.in_default.ensures c.in-Some.ensures
           (subst (λ (o : Options). Holds o x value) c.options_of.ensures h))
           c.put_state-written.ensures.done;
       refused = let value : Contents = contents c.keep_tree.new.state in
           let Holds : Options → Fault → Contents → Type 0 = λ options x. PassesLimit options x in
-          let kept = kept_records (contents c.replace.new.state) value c.in-Some.tree c.in-Some.ensures.keeps in
+          let kept = kept_records (contents c.replace.new.state) value c.in-Some.tree c.in-Some.ensures in
           let can = can_encode c.options_of.result.version c.args.format.now.kind _ c.args.paths.now c.args.rows.now
           value
-          c.requires.table.fit
+          c.requires.fit
           (kept ∙ written_records (contents c.args.state) (contents c.replace.new.state) c.args.paths.now
           c.args.rows.now
-          c.in_default.ensures.value) in
+          c.in_default.ensures) in
           refused_weaker c.put_state-written.result (λ (x : Fault). IsUnwritable c.options_of.result x value)
           (λ (x : Fault). TakesPlaceOf c.args.format.now.kind c.args.paths.now c.args.rows.now c.in-Some.tree
           (Holds (full_options c.args.format.now) x) (contents c.args.state))
           (λ x h. replaces c.args.format.now.kind c.args.paths.now c.args.rows.now (contents c.args.state)
           (contents c.replace.new.state) value c.in-Some.tree (Holds (full_options c.args.format.now) x)
-          c.requires.table c.in_default.ensures.value c.in-Some.ensures.keeps
+          c.requires c.in_default.ensures c.in-Some.ensures
           (subst (λ (o : Options). Holds o x value) c.options_of.ensures (limit_only c.options_of.result x value can
           h)))
           c.put_state-written.ensures.refused;
@@ -57,7 +57,7 @@ returns c =
           (Holds (full_options c.args.format.now) x) (contents c.args.state))
           (λ x h. replaces c.args.format.now.kind c.args.paths.now c.args.rows.now (contents c.args.state)
           (contents c.replace.new.state) value c.in-Some.tree (Holds (full_options c.args.format.now) x)
-          c.requires.table c.in_default.ensures.value c.in-Some.ensures.keeps
+          c.requires c.in_default.ensures c.in-Some.ensures
           (subst (λ (o : Options). Holds o x value) c.options_of.ensures h))
           c.put_state-written.ensures.no_room;
       room = search rules;

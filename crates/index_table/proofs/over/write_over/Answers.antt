@@ -36,8 +36,8 @@ returns-in-Some c =
       kept = search rules;
     }
 
-pub put_fit-requires-clause-table : goal.put_fit-requires-clause-table
-put_fit-requires-clause-table c =
+pub put_fit-requires : goal.put_fit-requires
+put_fit-requires c =
     subst (λ (b : Bool). IsFitTable c.args.format.now.kind b c.args.paths.now c.args.rows.now) c.is_sparse.ensures
     (c.in_default.ensures.fit refl)
 

@@ -7,10 +7,10 @@ use Rattle.index_table.proofs.spell.push_rows.Given as goal
 
 abbrev pub invariant-loop-row : goal.invariant-loop-row
 invariant-loop-row l = record {
-  records_are : records l.state ≡ records l.fn.state
+  records_are : PathsInStorage l.fn.state → records l.state ≡ records l.fn.state
       ++ written (records_of l.paths (take l.row-index l.rows));
-  others : contents l.state
+  others : PathsInStorage l.fn.state → contents l.state
       ≡ refit (contents l.fn.state) (records l.state) (contents l.state).fit;
   unfit : (contents l.fn.state).fit ≡ false → (contents l.state).fit ≡ false;
-  placed : PathsInStorage l.state;
+  placed : PathsInStorage l.fn.state → PathsInStorage l.state;
 }

@@ -20,14 +20,14 @@ returns-in-Ok-dissolve_into c =
         checksum = c.in-Ok.ensures.read.0;
         read = c.in-Ok.ensures.read.1;
         value = contents c.dissolve_into.new.split;
-        dissolved = c.in-Ok-dissolve_into.ensures.dissolved;
+        dissolved = c.in-Ok-dissolve_into.ensures.dissolved c.in-Ok.ensures.placed;
         holds = refl;
       };
-      placed = search rules;
+      placed = c.dissolve_into.ensures.placed c.requires.placed c.in-Ok.ensures.placed;
       storable = let r = c.in-Ok.ensures.read in
           let same = of_kind _ c.args.skip_hash c.args.kind c.args.shared.now (contents c.in-Ok.state) r.0 r.1 ∙ sym
           c.requires.kind in
-          c.dissolve_into.ensures.storable c.requires.storable c.in-Ok.ensures.storable same;
+          c.dissolve_into.ensures.storable c.in-Ok.ensures.placed c.requires.storable c.in-Ok.ensures.storable same;
       failed = search rules;
     }
 

@@ -11,7 +11,6 @@ pub returns-in-Err : goal.returns-in-Err
 returns-in-Err c =
     record {
       changed = search rules;
-      placed = search rules;
       why = subst (MakesNothing c.args.kind c.args.paths.now c.args.rows.now (contents c.args.state.now))
           (sym c.unordered.ensures)
           (fallen c.args.kind c.args.paths.now c.args.rows.now (contents c.args.state.now) c.in-Err.e
@@ -21,7 +20,8 @@ returns-in-Err c =
 pub returns-in-Ok-apply : goal.returns-in-Ok-apply
 returns-in-Ok-apply c =
     record {
-      changed = let ordered : IsStrictlyOrdered (records c.args.state.now) = c.in_default.ensures.ok.0 refl in
+      changed = λ placed.
+          let ordered : IsStrictlyOrdered (records c.args.state.now) = c.in_default.ensures.ok.0 refl in
           record {
             ordered = ordered;
             fit = rw (c.in_default-first_unfit.is, c.is_sparse.ensures) at c.first_unfit.ensures;
@@ -31,10 +31,9 @@ returns-in-Ok-apply c =
                 c.in-Ok.ensures;
             room = length (storage_of c.args.state.now);
             granted = c.in-Ok-apply.ensures.reason;
-            is = c.in-Ok-apply.ensures.updated ordered;
-            applied = c.in-Ok-apply.ensures.applied ordered;
+            is = c.in-Ok-apply.ensures.updated placed ordered;
+            applied = c.in-Ok-apply.ensures.applied placed ordered;
           };
-      placed = search rules;
       why = search rules;
     }
 
@@ -42,7 +41,6 @@ pub returns-in-Err-Refused : goal.returns-in-Err-Refused
 returns-in-Err-Refused c =
     record {
       changed = search rules;
-      placed = search rules;
       why = let ordered : IsStrictlyOrdered (records c.args.state.now) = c.in_default.ensures.ok.0 refl in
           inr (inr (record {
             ordered = ordered;

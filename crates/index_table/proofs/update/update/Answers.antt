@@ -46,7 +46,7 @@ returns c =
           (λ (x : Image). Updates c.args.kind c.args.index.now c.args.shared.now c.args.paths.now c.args.rows.now
           (HasKeptImage x c.args.room.now c.put_state.new.room))
           (λ x h. made c.args.kind c.args.index.now c.args.shared.now c.args.paths.now c.args.rows.now before value
-          (HasKeptImage x c.args.room.now c.put_state.new.room) c.in-Ok.ensures.read c.in_default.ensures.changed
+          (HasKeptImage x c.args.room.now c.put_state.new.room) c.in-Ok.ensures.read (c.in_default.ensures.changed c.in-Ok.ensures.placed)
           (subst (λ (o : Options). Holds o x value) (c.kept_options-options.ensures ∙ ap kept_options
           c.version.ensures) h))
           c.put_state.ensures.done;
@@ -57,7 +57,7 @@ returns c =
           (IsUnupdated c.args.kind c.args.index.now c.args.shared.now c.args.paths.now c.args.rows.now)
           (λ x h. inr (made c.args.kind c.args.index.now c.args.shared.now c.args.paths.now c.args.rows.now before
           value
-          (IsUnwritableKept x) c.in-Ok.ensures.read c.in_default.ensures.changed
+          (IsUnwritableKept x) c.in-Ok.ensures.read (c.in_default.ensures.changed c.in-Ok.ensures.placed)
           (subst (λ (o : Options). Holds o x value) (c.kept_options-options.ensures ∙ ap kept_options
           c.version.ensures) h)))
           c.put_state.ensures.refused;
@@ -71,7 +71,7 @@ returns c =
           (λ (x : Image). Updates c.args.kind c.args.index.now c.args.shared.now c.args.paths.now c.args.rows.now
           (PassesRoomKept x c.args.room.now))
           (λ x h. made c.args.kind c.args.index.now c.args.shared.now c.args.paths.now c.args.rows.now before value
-          (PassesRoomKept x c.args.room.now) c.in-Ok.ensures.read c.in_default.ensures.changed
+          (PassesRoomKept x c.args.room.now) c.in-Ok.ensures.read (c.in_default.ensures.changed c.in-Ok.ensures.placed)
           (subst (λ (o : Options). Holds o x value) (c.kept_options-options.ensures ∙ ap kept_options
           c.version.ensures) h))
           c.put_state.ensures.no_room;

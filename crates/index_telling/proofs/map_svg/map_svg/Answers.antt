@@ -76,7 +76,7 @@ returns g c = record {
         divided = rw (c.deref.ensures.value, c.in-Some.is) at c.in-Ok.ensures.divided;
         is = refl;
       },
-      rw c.deref-3.ensures.value at c.last_offset-offset.ensures,
+      rw c.deref-3.ensures.value at c.last_begin-offset.ensures,
     );
     grew = rw c.deref-2.ensures.value at c.in_default-write_svg.ensures.ok;
   });

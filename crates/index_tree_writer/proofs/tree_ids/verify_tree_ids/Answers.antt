@@ -5,9 +5,8 @@ use Rattle.index_entries.specs.Order.{IsOrderedByPath, IsStrictlyOrdered}
 use Rattle.index_entries.specs.Record.{Record, records_in}
 use Rattle.index_tree_writer.specs.Refusals.{AreFit}
 use Rattle.index_tree_writer.specs.TreeIds.{any_name}
-use Rattle.index_tree_writer.proofs.Divided.{empty_list, fault_of, merged_list, merged_ordered, merged_placed}
-use Rattle.index_tree_writer.proofs.Divided.{right_of, unmerged_list, unmerged_ordered, unmerged_placed}
-use Rattle.index_tree_writer.proofs.Divided.{whole_list}
+use Rattle.index_tree_writer.proofs.Divided.{empty_list, fault_of, merged_list, merged_ordered, right_of, unmerged_list}
+use Rattle.index_tree_writer.proofs.Divided.{unmerged_ordered, whole_list}
 use Rattle.index_tree_writer.proofs.tree_ids.verify_tree_ids.Goals as goal
 
 pub returns-then-not-has_unmerged-clause-right : goal.returns-then-not-has_unmerged-clause-right
@@ -38,26 +37,18 @@ returns-then-not-has_unmerged-clause-fault c =
     (c.new-merged.ensures ∙ whole_list c.args.backing.now c.args.entries.now none)
     (c.first.ensures ∙ empty_list c.args.backing.now c.args.entries.now none) c.verify_beside.ensures.fault
 
-pub new-merged-requires-2 : goal.new-merged-requires-2
-new-merged-requires-2 c = merged_placed (length c.args.backing.now) c.args.entries.now c.deref.result.now
-    c.requires.placed (c.deref.ensures.value ∙ c.in_ok-merged.ensures.merged)
-
-pub new-requires : goal.new-requires
-new-requires c = unmerged_placed (length c.args.backing.now) c.args.entries.now c.deref-2.result.now
-    c.requires.placed (c.deref-2.ensures.value ∙ c.in_ok-merged.ensures.unmerged)
-
 pub verify_beside-requires-2-clause-ordered : goal.verify_beside-requires-2-clause-ordered
 verify_beside-requires-2-clause-ordered c =
     let rs = records_in c.args.backing.now c.args.entries.now in
     subst IsStrictlyOrdered (sym (c.new-merged-2.ensures ∙ merged_list c.args.backing.now c.args.entries.now
-    c.deref.result.now (c.deref.ensures.value ∙ c.in_ok-merged.ensures.merged))) (merged_ordered rs c.requires.ordered)
+    c.deref.result.now (c.deref.ensures.value ∙ c.in_ok-merged.ensures.merged))) (merged_ordered rs c.requires)
 
 pub verify_beside-requires-2-clause-unmerged : goal.verify_beside-requires-2-clause-unmerged
 verify_beside-requires-2-clause-unmerged c =
     let rs = records_in c.args.backing.now c.args.entries.now in
     subst IsOrderedByPath (sym (c.new.ensures ∙ unmerged_list c.args.backing.now c.args.entries.now
     c.deref-2.result.now (c.deref-2.ensures.value ∙ c.in_ok-merged.ensures.unmerged)))
-    (unmerged_ordered rs c.requires.ordered)
+    (unmerged_ordered rs c.requires)
 
 pub returns-clause-right : goal.returns-clause-right
 returns-clause-right c =

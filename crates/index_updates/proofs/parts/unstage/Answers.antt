@@ -4,8 +4,13 @@ use Rattle.index_updates.proofs.parts.unstage.Goals as goal
 
 pub returns : goal.returns
 returns c =
-    unstages c.args.parts.now _ c.args.path c.in_ok-count.count (search rules) (search rules) (search rules) (search rules)
-    (search rules)
+    unstages c.args.parts.now _ c.args.path c.in_ok-count.count
+    (λ here o.
+    let kept = c.in_ok-count.ensures.kept.kept here o in
+    let monitor = c.in_ok-count.ensures.kept.monitor here o in
+    let applied = c.in_ok-count.ensures.made.applied o in
+    search rules)
+    (search rules) (search rules) (search rules) (search rules)
 
 pub returns-in_err-count : goal.returns-in_err-count
 returns-in_err-count c = record {

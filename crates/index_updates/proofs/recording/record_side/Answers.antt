@@ -28,7 +28,8 @@ returns c =
     let xs = c.args.paths.now.items in
     let i = c.place_for-place.result in
     let place = subst (λ (l : List ResolvePath). IsPlaceFor path_stages path l i) c.deref.ensures.value c.place_for-place.ensures in
+    let made = c.put_side-2.ensures ∙ ap (λ p. with_side (record_at p.name c.args.entry.now) p) c.in_ok-made.ensures in
     let other = subst (λ (l : List ResolvePath). IsOther path_stages path l i) c.deref-2.ensures.value
     (c.if-is_there.ensures.other refl) in
     ap (map path_stages) c.in_ok-insert.ensures.items
-    ∙ recorded_between path_stages (record_at path c.args.entry.now) c.in_ok-made.made xs i place other c.in_ok-made.ensures
+    ∙ recorded_between path_stages (record_at path c.args.entry.now) c.put_side-2.new.path xs i place other made

@@ -12,7 +12,7 @@ use Rattle.index_updates.proofs.single.cut_watched.Goals as goal
 pub returns-clause-told : goal.returns-clause-told
 returns-clause-told c = record {
   count = search rules;
-  monitor = λ o.
+  monitor = λ placed o.
       let es = c.args.entries.now.items in
       let s = c.args.storage.now.items in
       let path = c.args.path.now in
@@ -24,7 +24,7 @@ returns-clause-told c = record {
       let unstaged = subst (λ l. IsStrictlyOrdered (records_in s l) → IsUnstagedFrom path (records_in s l) (records_in s edited))
       same there o in
       told_of (Unstage c.args.path ∷ []) s s es edited c.new.result c.new-2.result
-      (option_map monitor_of c.args.monitor.now) _ c.requires.placed (none_grown s)
+      (option_map monitor_of c.args.monitor.now) _ placed (none_grown s)
       (c.new.ensures ∙ ap (λ l. records_in c.deref-5.result.now l) c.deref-4.ensures.value
       ∙ ap (λ x. records_in x es) c.deref-5.ensures.value)
       (c.new-2.ensures ∙ ap (λ l. records_in c.deref-7.result.now l) c.deref-6.ensures.value

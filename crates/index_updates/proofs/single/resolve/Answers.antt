@@ -1,8 +1,8 @@
 use Rattle.std.proofs.Common.{subst}
-use Rattle.index_entries.specs.Order.{IsStrictlyOrdered}
 use Rattle.index_entries.specs.Record.{records_in, with_path}
 use Rattle.index_entries.specs.declared.Pathless.{Pathless}
 use Rattle.index_edits.specs.Edits.{IsResolvedInto, IsStagedInto, merged}
+use Rattle.index_edits.specs.EntryEdits.{ChangesPlaced}
 use Rattle.index_edits.proofs.Resolvings.{no_stage, on_ok, resolved_into}
 use Rattle.index_edits.specs.declared.change.Change.TheVariants.{Stage}
 use Rattle.index_updates.specs.EntryUpdates.{KeepsOne, StagesOne}
@@ -11,8 +11,11 @@ use Rattle.index_updates.proofs.single.resolve.Goals as goal
 pub returns-clause-made : goal.returns-clause-made
 returns-clause-made g c =
     let path = c.args.path.now in
-    let old = records_in c.args.storage.now.items c.args.entries.now.items in
-    let now = records_in c.stage.new.storage.items c.stage.new.entries.items in
+    let new = with_path path (merged c.args.entry) in
+    let s = c.args.storage.now.items in
+    let es = c.args.entries.now.items in
+    let t = c.stage.new.storage.items in
+    let ds = c.stage.new.entries.items in
     let P : Pathless → Type 0 = λ e.
     StagesOne e c.args.path c.args.storage.now c.args.entries.now c.stage.new.storage c.stage.new.entries c.stage.result in
     let one = subst P c.merged.ensures c.stage.ensures.made in
@@ -20,10 +23,10 @@ returns-clause-made g c =
     record {
       resolved = record {
         resolved = record {
-          made = on_ok c.stage.result (IsStrictlyOrdered old → IsStagedInto (with_path path (merged c.args.entry)) old now)
-              (IsStrictlyOrdered old → IsResolvedInto (with_path path (merged c.args.entry)) old now)
-              (λ h o. resolved_into (with_path path (merged c.args.entry)) old now (no_stage c.args.entry.flags.0) (h o))
-              settled.staged.made;
+          made = on_ok c.stage.result (ChangesPlaced (IsStagedInto new) s es t ds)
+              (ChangesPlaced (IsResolvedInto new) s es t ds)
+              (λ h placed o. resolved_into new (records_in s es) (records_in t ds) (no_stage c.args.entry.flags.0)
+              (h placed o)) settled.staged.made;
           placed = settled.staged.placed;
           storage = settled.staged.storage;
           err_entries = settled.staged.err_entries;

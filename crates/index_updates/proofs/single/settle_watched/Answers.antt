@@ -12,17 +12,18 @@ use Rattle.index_updates.proofs.single.settle_watched.Goals as goal
 pub returns-in-Ok-clause-settled : goal.returns-in-Ok-clause-settled
 returns-in-Ok-clause-settled c = record {
   told = search rules;
-  monitor = λ o.
+  monitor = λ placed o.
       let es = c.args.entries.now.items in
       let s = c.args.storage.now.items in
       let edited = c.settle-2.new.entries.items in
       let t = c.settle-2.new.storage.items in
       let same = c.in_ok-edited.ensures ∙ c.deref.ensures.value in
+      let here = subst (All (IsPlaced (length s))) (sym same) placed in
       let ordered = subst (λ l. IsStrictlyOrdered (records_in s l)) (sym same) o in
       let staged = subst (λ l. IsStagedInto (with_path c.args.path.now c.args.entry) (records_in s l) (records_in t edited)) same
-      (c.in_ok-told.ensures.staged.made ordered) in
+      (c.in_ok-told.ensures.staged.made here ordered) in
       told_of (Stage c.args.entry c.args.path ∷ []) s t es edited c.new.result c.new-2.result
-      (option_map monitor_of c.args.monitor.now) _ c.requires.placed (grown_by s t c.args.path.now c.in_ok-told.ensures.staged.storage)
+      (option_map monitor_of c.args.monitor.now) _ placed (grown_by s t c.args.path.now c.in_ok-told.ensures.staged.storage)
       (c.new.ensures ∙ ap (λ l. records_in c.deref-3.result.now l) c.deref-2.ensures.value
       ∙ ap (λ x. records_in x es) c.deref-3.ensures.value)
       (c.new-2.ensures ∙ ap (λ l. records_in c.deref-5.result.now l) c.deref-4.ensures.value
@@ -38,7 +39,7 @@ returns-in-Err-clause-staged c =
     (grown_by s t c.args.path.now c.in_ok-told.ensures.staged.storage) c.truncate.ensures.items in
     record {
       made = search rules;
-      placed = subst (λ l. All (IsPlaced (length l)) c.args.entries.now.items) (sym left) c.requires.placed;
+      placed = λ placed. subst (λ l. All (IsPlaced (length l)) c.args.entries.now.items) (sym left) placed;
       storage = inl left;
       err_entries = search rules;
       err_storage = left;

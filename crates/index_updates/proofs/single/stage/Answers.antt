@@ -1,6 +1,6 @@
-use Rattle.std.proofs.Common.{rules, ◌∙◌, ◌∷◌, [], ap, refl, subst, sym}
+use Rattle.std.proofs.Common.{rules, ◌∙◌, ◌∷◌, [], All, ap, length, refl, subst, sym}
 use Rattle.index_entries.specs.Order.{IsStrictlyOrdered}
-use Rattle.index_entries.specs.Record.{records_in, with_path}
+use Rattle.index_entries.specs.Record.{IsPlaced, records_in, with_path}
 use Rattle.index_edits.proofs.Applied.{one_staged}
 use Rattle.index_edits.specs.declared.change.Change.TheVariants.{Stage}
 use Rattle.index_updates.specs.Kept.{IsKeptAfter}
@@ -11,8 +11,8 @@ use Rattle.index_updates.proofs.single.stage.Goals as goal
 pub returns-clause-made : goal.returns-clause-made
 returns-clause-made g c = record {
   settled = record { staged = search rules; told = search rules };
-  applied = λ o. one_staged _ (records_in c.args.storage.now.items c.args.entries.now.items) _
-      (with_path c.args.path.now c.args.entry) refl (λ r. refl) (c.in_ok-told.ensures.staged.made o);
+  applied = λ placed o. one_staged _ (records_in c.args.storage.now.items c.args.entries.now.items) _
+      (with_path c.args.path.now c.args.entry) refl (λ r. refl) (c.in_ok-told.ensures.staged.made placed o);
 }
 
 pub returns-clause-kept : goal.returns-clause-kept
@@ -21,7 +21,7 @@ returns-clause-kept g c =
     let es = c.args.entries.now.items in
     let cs = Stage c.args.entry c.args.path ∷ [] in
     let old = undo_paths c.args.kept.now.undo in
-    let kept = λ (o : IsStrictlyOrdered (records_in s es)).
+    let kept = λ (placed : All (IsPlaced (length s)) es) (o : IsStrictlyOrdered (records_in s es)).
     let ordered = subst (λ l. IsStrictlyOrdered (records_in s l)) (sym c.deref.ensures.value) o in
     let there : IsKeptAfter cs (records_in s es) c.args.kept.now c.renew.new.kept = record {
       tree = c.renew.ensures.tree;
@@ -32,7 +32,7 @@ returns-clause-kept g c =
     record {
       kept = kept;
       monitor = search rules;
-      sound = λ o. kept_sound cs (records_in s es) c.args.kept.now c.renew.new.kept (kept o);
-      spellable = λ o. kept_spellable cs (records_in s es) c.args.kept.now c.renew.new.kept (kept o);
+      sound = λ placed o. kept_sound cs (records_in s es) c.args.kept.now c.renew.new.kept (kept placed o);
+      spellable = λ placed o. kept_spellable cs (records_in s es) c.args.kept.now c.renew.new.kept (kept placed o);
       err_kept = search rules;
     }

@@ -1,6 +1,6 @@
-use Rattle.std.proofs.Common.{rules, ◌∙◌, ◌∷◌, [], ap, refl, subst, sym}
+use Rattle.std.proofs.Common.{rules, ◌∙◌, ◌∷◌, [], All, ap, length, refl, subst, sym}
 use Rattle.index_entries.specs.Order.{IsStrictlyOrdered}
-use Rattle.index_entries.specs.Record.{records_in}
+use Rattle.index_entries.specs.Record.{IsPlaced, records_in}
 use Rattle.index_edits.proofs.Applied.{one_unstaged}
 use Rattle.index_edits.specs.declared.change.Change.TheVariants.{Unstage}
 use Rattle.index_updates.specs.Kept.{IsKeptAfter}
@@ -22,7 +22,7 @@ returns-clause-kept c =
     let es = c.args.entries.now.items in
     let cs = Unstage c.args.path ∷ [] in
     let old = undo_paths c.args.kept.now.undo in
-    let kept = λ (o : IsStrictlyOrdered (records_in s es)).
+    let kept = λ (placed : All (IsPlaced (length s)) es) (o : IsStrictlyOrdered (records_in s es)).
     let ordered = subst (λ l. IsStrictlyOrdered (records_in s l)) (sym c.deref.ensures.value) o in
     let there : IsKeptAfter cs (records_in s es) c.args.kept.now c.renew.new.kept = record {
       tree = c.renew.ensures.tree;
@@ -33,7 +33,7 @@ returns-clause-kept c =
     record {
       kept = kept;
       monitor = search rules;
-      sound = λ o. kept_sound cs (records_in s es) c.args.kept.now c.renew.new.kept (kept o);
-      spellable = λ o. kept_spellable cs (records_in s es) c.args.kept.now c.renew.new.kept (kept o);
+      sound = λ placed o. kept_sound cs (records_in s es) c.args.kept.now c.renew.new.kept (kept placed o);
+      spellable = λ placed o. kept_spellable cs (records_in s es) c.args.kept.now c.renew.new.kept (kept placed o);
       err_kept = search rules;
     }

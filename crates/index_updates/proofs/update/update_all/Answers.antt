@@ -17,9 +17,9 @@ returns-in-Some c =
     let cs = c.args.changes.now in
     record {
       made = IfOk-weaker c.update_each.result _ _ (λ made m. record {
-        applied = λ o. reordered_into cs c.deref.result.now old (reordered c) o
-            (records_in c.update_each.new.storage.items made.entries.items) (m.applied o);
-        undone = λ o. m.undone o ∙ reordered_undone cs c.deref.result.now old (reordered c) o (undo_paths c.args.undo.now);
+        applied = λ placed o. reordered_into cs c.deref.result.now old (reordered c) o
+            (records_in c.update_each.new.storage.items made.entries.items) (m.applied placed o);
+        undone = λ placed o. m.undone placed o ∙ reordered_undone cs c.deref.result.now old (reordered c) o (undo_paths c.args.undo.now);
         placed = m.placed;
       }) c.update_each.ensures.made;
       storage = search rules;

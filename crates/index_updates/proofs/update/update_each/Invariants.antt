@@ -2,6 +2,7 @@ use Rattle.std.proofs.Common.{◌≡◌, ◌≤◌, ◌++◌, ℕ, List, All, dr
 use Rattle.index_entries.specs.Order.{IsStrictlyOrdered}
 use Rattle.index_entries.specs.Record.{IsPlaced, records_in}
 use Rattle.index_edits.specs.Changes.{IsAppliedTo}
+use Rattle.index_edits.specs.EntryEdits.{StayInStorage}
 use Rattle.index_updates.specs.Undone.{undo_paths, undone}
 use Rattle.index_updates.proofs.update.update_each.Given as goal
 
@@ -9,11 +10,13 @@ use Rattle.index_updates.proofs.update.update_each.Given as goal
 abbrev pub invariant-loop-place : goal.invariant-loop-place
 invariant-loop-place l = record {
   inside : l.at ≤ length l.entries;
-  placed : All (IsPlaced (length l.storage.items)) l.done.items;
-  applied : IsStrictlyOrdered (records_in l.initial.storage.items l.entries)
+  placed : StayInStorage l.initial.storage.items l.entries l.storage.items l.done.items;
+  applied : All (IsPlaced (length l.initial.storage.items)) l.entries
+      → IsStrictlyOrdered (records_in l.initial.storage.items l.entries)
       → IsAppliedTo (take l.place l.changes) (records_in l.initial.storage.items l.entries)
       (records_in l.storage.items (l.done.items ++ drop l.at l.entries));
-  undone : IsStrictlyOrdered (records_in l.initial.storage.items l.entries) → undo_paths l.undo
+  undone : All (IsPlaced (length l.initial.storage.items)) l.entries
+      → IsStrictlyOrdered (records_in l.initial.storage.items l.entries) → undo_paths l.undo
       ≡ undone (take l.place l.changes) (records_in l.initial.storage.items l.entries)
       (undo_paths l.initial.undo);
   storage : (more : List ℕ) × (l.storage.items ≡ l.initial.storage.items ++ more);

@@ -1,11 +1,11 @@
-use Rattle.std.proofs.Common.{rules, ◌≡◌, ◌∙◌, All, ap, drop, subst}
+use Rattle.std.proofs.Common.{rules, ◌≡◌, ◌∙◌, All, ap, drop, length, subst}
 use Rattle.index_entries.specs.Order.{IsOrderedByPath, IsStrictlyOrdered}
 use Rattle.index_entries.specs.Record.{records_in}
 use Rattle.index_edits.specs.Changes.{path_of}
 use Rattle.index_edits.specs.EditSteps.{IsBeyond}
 use Rattle.index_edits.proofs.Passes.{next_applied}
 use Rattle.index_updates.specs.Undone.{all_recorded, lost, undo_paths}
-use Rattle.index_updates.proofs.Nexts.{mid_clear, mid_ordered, next_lost}
+use Rattle.index_updates.proofs.Nexts.{mid_clear, mid_ordered, mid_placed, next_lost}
 use Rattle.index_updates.proofs.update.update_next.Goals as goal
 
 beyond : (c : goal.In_ok-apply_one) → IsOrderedByPath (records_in c.args.storage.now.items c.args.rest.now)
@@ -21,15 +21,17 @@ beyond c =
 pub returns-clause-applied : goal.returns-clause-applied
 returns-clause-applied c =
     let grown = c.in_ok-apply_one.ensures.storage in
+    let mid = mid_placed (length c.args.storage.now.items) c.args.done.now.items c.args.rest.now c.pass.new.done.items
+    c.in_ok-count.count c.in_ok-count.ensures.copied in
     record {
       inside = search rules;
-      applied = λ o clear. next_applied c.args.change.now c.args.storage.now.items grown.0 c.apply_one.new.storage.items
+      applied = λ here behind o clear. next_applied c.args.change.now c.args.storage.now.items grown.0 c.apply_one.new.storage.items
           c.args.done.now.items c.args.rest.now c.pass.new.done.items c.apply_one.new.entries.items c.in_ok-count.count grown.1
-          c.requires.rest_placed c.in_ok-count.ensures.copied (beyond c)
-          (λ m. c.in_ok-apply_one.ensures.applied m (mid_clear c.args.change.now c.args.storage.now.items
+          behind c.in_ok-count.ensures.copied (beyond c)
+          (λ m. c.in_ok-apply_one.ensures.applied (mid here behind) m (mid_clear c.args.change.now c.args.storage.now.items
           c.args.done.now.items c.args.rest.now c.pass.new.done.items c.in_ok-count.count c.in_ok-count.ensures.copied
           (beyond c) o c.args.known clear)) o;
-      placed = search rules;
+      placed = λ here behind. c.in_ok-apply_one.ensures.placed (mid here behind);
       storage = search rules;
     }
 

@@ -3,7 +3,7 @@ use Rattle.std.proofs.lemmas.Result.{err_from_is_err_and}
 use Rattle.index_split.specs.Link.{link_of}
 use Rattle.index_state.specs.Dissolve.{IsDissolved, SaysDissolve}
 use Rattle.index_format.specs.Contents.{Contents}
-use Rattle.index_state.specs.State.{contents}
+use Rattle.index_state.specs.State.{PathsInStorage, contents}
 use Rattle.index_format.specs.Storable.{IsStorable}
 use Rattle.gix_index.specs.Disk.{disk_in_hand}
 use Rattle.gix_index.specs.File.{checksum_of, state_of}
@@ -76,7 +76,8 @@ returns-clause-read c =
     let link = rw c.in-Some.is at t.given in
     let split = c.in_ok-file.file in
     let index = c.in_ok-index.index in
-    let d = rw c.into_parts-shared.ensures.state at c.in_ok-dissolve_into.ensures.dissolved in
+    let d = (rw c.into_parts-shared.ensures.state at c.in_ok-dissolve_into.ensures.dissolved)
+    c.in_ok-index.ensures.formed.placed in
     joined (record {
       split = contents (state_of split);
       link = link_of c.in-Some.link;
@@ -102,17 +103,18 @@ returns-clause-whole c =
     let same = ap contents c.into_parts-shared.ensures.state in
     let own = c.in_ok-file.ensures.formed in
     let shared = c.in_ok-index.ensures.formed in
+    let placed : PathsInStorage c.into_parts-shared.result.0 = rw c.into_parts-shared.ensures.state shared.placed in
     let after = c.dissolve_into.ensures in
     let unlinked = ap (λ (v : Contents). v.extensions.link) t.removed in
     record {
       path = own.path;
-      placed = after.placed;
-      ids = after.ids c.args.reading.object_hash (rw t.entries own.ids)
+      placed = after.placed (rw (t.entries, t.storage) own.placed) placed;
+      ids = after.ids placed c.args.reading.object_hash (rw t.entries own.ids)
           (rw c.into_parts-shared.ensures.state shared.ids);
-      storable = after.storable
+      storable = after.storable placed
           (subst IsStorable (sym t.removed) (unlinked_storable (contents (state_of split)) own.storable))
           (rw c.into_parts-shared.ensures.state shared.storable)
           (ap (λ (v : Contents). v.kind) same ∙ theirs ∙ sym mine ∙ sym (ap (λ (v : Contents). v.kind) t.removed));
       unlinked = dissolved_unlinked (link_of c.in-Some.link) _ _ _ unlinked
-          c.in_ok-dissolve_into.ensures.dissolved;
+          (c.in_ok-dissolve_into.ensures.dissolved placed);
     }

@@ -64,7 +64,7 @@ returns-clause-read g c = λ known read.
     let t = c.take_followed_link.ensures in
     let link = rw c.in-Some.is at t.given in
     let s = rw c.as_path.ensures at c.in_ok-shared.ensures.read in
-    let d = c.in_ok-dissolve_into.ensures.dissolved in
+    let d = c.in_ok-dissolve_into.ensures.dissolved c.in_ok-shared.ensures.formed.placed in
     joined (record {
       split = contents (state_of c.args.file);
       link = link_of c.in-Some.link;
@@ -92,10 +92,10 @@ returns-clause-whole g c =
     let unlinked = ap (λ (v : Contents). v.extensions.link) t.removed in
     record {
       path = refl;
-      placed = after.placed;
-      ids = after.ids c.args.reading.object_hash (rw t.entries c.requires.formed.ids) shared.ids;
-      storable = after.storable (subst IsStorable (sym t.removed)
+      placed = after.placed (rw (t.entries, t.storage) c.requires.formed.placed) shared.placed;
+      ids = after.ids shared.placed c.args.reading.object_hash (rw t.entries c.requires.formed.ids) shared.ids;
+      storable = after.storable shared.placed (subst IsStorable (sym t.removed)
           (unlinked_storable (contents (state_of c.args.file)) c.requires.formed.storable)) shared.storable same;
       unlinked = dissolved_unlinked (link_of c.in-Some.link) _ _ _ unlinked
-          c.in_ok-dissolve_into.ensures.dissolved;
+          (c.in_ok-dissolve_into.ensures.dissolved shared.placed);
     }

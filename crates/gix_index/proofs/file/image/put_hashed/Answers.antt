@@ -16,7 +16,7 @@ returns g c =
     record {
       answer = record {
         version = search rules;
-        id = hashed_id v c.args.options _ c.requires.digest (c.finalize.ensures _ h.1
+        id = hashed_id v c.args.options _ c.requires (c.finalize.ensures _ h.1
             ∙ ap (λ (k : Kind). make_id k (digest k (body v c.args.options))) (h.0 ∙ c.object_hash.ensures));
         bytes = search rules;
         too_many = search rules;

@@ -6,15 +6,17 @@ use Rattle.index_inspect.proofs.Completing.{merged_or_own, merges_or_sorts}
 use Rattle.index_inspect.proofs.Saved.{index_itself, kind_is}
 use Rattle.index_inspect.proofs.remains.Remains.save.Goals as goal
 
-pub saved-requires : goal.saved-requires
-saved-requires c = index_itself _ _ _ c.in_ok-state.ensures.completed.index
-
-pub marked-state-requires : goal.marked-state-requires
-marked-state-requires c = index_itself _ _ _ c.in_ok-state-2.ensures.index
-
 pub returns-clause-kind : goal.returns-clause-kind
-returns-clause-kind c = c.marked-state.ensures.kind ∙ kind_is _ _ _ c.in_ok-state-2.ensures.index
-    ∙ c.in_ok-state.ensures.completed.same_kind
+returns-clause-kind c =
+    let own = c.in_ok-state.ensures.completed.index c.requires.plain in
+    let kept = c.in_ok-state-2.ensures.index (index_itself _ _ _ own) in
+    c.marked-state.ensures.kind ∙ kind_is _ _ _ kept ∙ c.in_ok-state.ensures.completed.same_kind
+
+pub returns-clause-plain : goal.returns-clause-plain
+returns-clause-plain c =
+    let own = c.in_ok-state.ensures.completed.index c.requires.plain in
+    let kept = c.in_ok-state-2.ensures.index (index_itself _ _ _ own) in
+    c.marked-state.ensures.plain (index_itself _ _ _ kept)
 
 pub returns-clause-saved : goal.returns-clause-saved
 returns-clause-saved c = record {

@@ -1,10 +1,7 @@
-use Rattle.std.proofs.Common.{arith, of_calls, ◌≡◌, ◌<◌, List, [], ◌∷◌, ◌++◌, length, refl, sym, ap, subst, ◌∙◌}
-use Rattle.std.specs.List.{All}
+use Rattle.std.proofs.Common.{arith, of_calls, ◌≡◌, ◌<◌, [], ◌∷◌, ◌++◌, length, refl, sym, ap, ◌∙◌}
 use Rattle.std.proofs.lemmas.Fn.{FoldsTo-push}
 use Rattle.std.proofs.lemmas.List.{nil_from_length, append-nil, append_assoc, length-append}
-use Rattle.std.proofs.lemmas.List.Elements.{All-tail}
-use Rattle.index_entries.specs.declared.Entry.{Entry}
-use Rattle.index_entries.specs.Record.{IsPlaced, record_in}
+use Rattle.index_entries.specs.Record.{record_in}
 use Rattle.index_lookups.proofs.paths.FilterMapPathsIterator.next.Goals as goal
 
 pub returns-clause-steps : goal.returns-clause-steps
@@ -12,51 +9,41 @@ returns-clause-steps g c =
     let inv = c.loop-entry.invariant in
     let over : c.loop-entry.self.entries.now ≡ [] = nil_from_length _ c.in_default.ensures.cases in (
       record {
-        skipped = inv.3.0;
+        skipped = inv.2.0;
         then = c.loop-entry.self.filter_map;
-        skips = inv.3.2;
-        gives = (inv.3.1 ∙ ap (λ xs. inv.3.0 ++ xs) over ∙ append-nil inv.3.0, over, refl);
+        skips = inv.2.2;
+        gives = (inv.2.1 ∙ ap (λ xs. inv.2.0 ++ xs) over ∙ append-nil inv.2.0, over, refl);
       },
-      inv.2,
+      inv.1,
     )
 
 pub loop-entry-preserved : goal.loop-entry-preserved
 loop-entry-preserved g c =
     let inv = c.loop-entry.invariant in
-    let storage = c.loop-entry.self.backing.now in
     let e = c.in-Some.entry.now in
     let rest = c.in-Some.rest.now in
     let split : c.loop-entry.self.entries.now ≡ e ∷ rest = c.in-Some.ensures.cases.0 in
-    let stored : All (IsPlaced (length storage)) (e ∷ rest) = let P : List Entry → Type 0 =
-    λ xs. All (IsPlaced (length storage)) xs in
-    subst P split inv.1 in
     let path : c.path_in-path.result.now ≡ (record_in c.args.self.now.backing.now e).path =
-    c.path_in-path.ensures ∙ ap (λ s. (record_in s e).path) inv.2 in
+    c.path_in-path.ensures ∙ ap (λ s. (record_in s e).path) inv.1 in
     let none = rw c.in_default-filter_map.is at c.filter_map.ensures in
-    let same : c.args.self.now.entries.now ≡ (inv.3.0 ++ e ∷ []) ++ rest =
-    inv.3.1 ∙ ap (λ xs. inv.3.0 ++ xs) split ∙ sym (append_assoc inv.3.0 (e ∷ []) rest) in (
+    let same : c.args.self.now.entries.now ≡ (inv.2.0 ++ e ∷ []) ++ rest =
+    inv.2.1 ∙ ap (λ xs. inv.2.0 ++ xs) split ∙ sym (append_assoc inv.2.0 (e ∷ []) rest) in (
       search of_calls,
-      All-tail (IsPlaced (length storage)) e rest stored,
-      inv.2,
+      inv.1,
       (
-        inv.3.0 ++ e ∷ [],
+        inv.2.0 ++ e ∷ [],
         same,
-        FoldsTo-push _ c.args.self.now.filter_map inv.3.0 c.loop-entry.self.filter_map e
-            c.filter_map.new.self inv.3.2 (c.path_in-path.result, c.in-Some.entry, path, refl, none),
+        FoldsTo-push _ c.args.self.now.filter_map inv.2.0 c.loop-entry.self.filter_map e
+            c.filter_map.new.self inv.2.2 (c.path_in-path.result, c.in-Some.entry, path, refl, none),
       ),
     )
 
 pub returns-in-Some-filter_map-clause-goes : goal.returns-in-Some-filter_map-clause-goes
 returns-in-Some-filter_map-clause-goes g c =
     let inv = c.loop-entry.invariant in
-    let storage = c.loop-entry.self.backing.now in
     let e = c.in-Some.entry.now in
     let rest = c.in-Some.rest.now in
     let split : c.loop-entry.self.entries.now ≡ e ∷ rest = c.in-Some.ensures.cases.0 in
-    let stored : All (IsPlaced (length storage)) (e ∷ rest) = let P : List Entry → Type 0 =
-    λ xs. All (IsPlaced (length storage)) xs in
-    subst P split inv.1 in
     let fewer : length rest < length c.args.self.now.entries.now =
-    omega (arith, ap length inv.3.1, length-append inv.3.0 c.loop-entry.self.entries.now, ap length split) in
-    let tail = All-tail (IsPlaced (length storage)) e rest stored in
-    record { on = λ _. ((tail, search of_calls), tt, fewer); keeps = (tail, search of_calls); rests = λ _. tt }
+    omega (arith, ap length inv.2.1, length-append inv.2.0 c.loop-entry.self.entries.now, ap length split) in
+    record { on = λ _. (search of_calls, tt, fewer); keeps = search of_calls; rests = λ _. tt }

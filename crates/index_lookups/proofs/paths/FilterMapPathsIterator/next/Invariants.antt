@@ -1,14 +1,12 @@
 use Rattle.std.proofs.Common.{◌≡◌, List, ◌++◌, None, length}
-use Rattle.std.specs.List.{FoldsTo, All}
+use Rattle.std.specs.List.{FoldsTo}
 use Rattle.index_entries.specs.declared.Entry.{Entry}
-use Rattle.index_entries.specs.Record.{IsPlaced}
 use Rattle.index_lookups.specs.FilterMap.{LooksAt}
 use Rattle.index_lookups.proofs.paths.FilterMapPathsIterator.next.Given as goal
 
 abbrev pub invariant-loop-entry : goal.invariant-loop-entry
 invariant-loop-entry g l =
     goal.F-IsAlwaysCallable g l.self.filter_map
-    × All (IsPlaced (length l.self.backing.now)) l.self.entries.now
     × (l.self.backing.now ≡ l.initial.self.backing.now)
     × ((skipped : List Entry)
     × (l.initial.self.entries.now ≡ skipped ++ l.self.entries.now)
