@@ -22,7 +22,9 @@ use Rattle.index_file_faults.specs.ReadErrors.{link_error_of}
 use Rattle.gix_index.specs.Disk.{Disk, MayHave, known_of, shared_path}
 use Rattle.gix_index.specs.FileFaults.{IsOfFile, SaysOfBoth, SaysOfFile, SaysOfFiles}
 use Rattle.gix_index.specs.Linked.{IsOnDisk, IsReadAlone, IsReadAs, IsSplit, expecting, own, joined}
+use Rattle.gix_index.specs.ReadFile.{IsFileRead, IsFileReadKeeping}
 use Rattle.gix_index.specs.declared.file.unfollowed.Unfollowed.{Unfollowed}
+use Rattle.index_window.specs.declared.ReadOptions.{ReadOptions}
 use Rattle.index_file_faults.specs.declared.init.Error.{Error}
 use Rattle.index_file_faults.specs.declared.init.Error.TheVariants as errors
 
@@ -48,6 +50,17 @@ pub held_by : (stored : Option Stored) (bytes : List ℕ) → IfSome stored (λ 
     → MayHave (known_of stored) bytes
 held_by None bytes h = tt
 held_by (Some file) bytes h = h
+
+module _ (r : ReadOptions) (known : Known) where
+  -- what is read with the bytes behind its entries, or without, is read
+  pub file_read : (keeps : Bool) (u : Unfollowed) → IsFileReadKeeping keeps r known u → IsFileRead known r u.index
+  file_read keeps u h = record { bytes = h.0; held = h.1; read = h.2.read }
+
+  -- and with them it is read by itself
+  pub alone_kept : (e : Result Unfollowed Error) → IfOk e (IsFileReadKeeping true r known)
+      → IfOk e (IsReadAlone known r.skip_hash r.object_hash r.timestamp r.options)
+  alone_kept (Ok u) h = (h.0, h.1, record { read = h.2.read; ending = h.2.ending refl })
+  alone_kept (Err e) h = tt
 
 module _ (skip : Bool) (kind : Kind) (time : FileTime) (options : Options) where
   -- the file that was opened is the one at the path

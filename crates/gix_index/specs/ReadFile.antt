@@ -16,12 +16,13 @@ use Rattle.index_format.specs.Contents.{Contents}
 use Rattle.index_format.specs.declared.decode.Options.{Options}
 use Rattle.index_state.specs.State.{contents}
 use Rattle.index_state.specs.declared.State.{State}
+use Rattle.index_window.specs.Behind.{FollowEntries}
 use Rattle.index_window.specs.declared.ReadOptions.{ReadOptions}
 use Rattle.gix_index.specs.Checked.{IsFileAnswer}
 use Rattle.gix_index.specs.Disk.{Disk, IsTimeFor, MayHave, disk_at, disk_beside, shared_path}
 use Rattle.gix_index.specs.File.{IsEmptyFile, IsWholeFile, checksum_of, path_of, state_of}
 use Rattle.gix_index.specs.FileFaults.{SaysOfBoth, SaysOfFile, SaysOfFiles}
-use Rattle.gix_index.specs.Linked.{IsOnDisk, IsOnDiskSince, IsReadAlone, IsReadAloneIn, IsReadAs, expecting}
+use Rattle.gix_index.specs.Linked.{IsOnDisk, IsOnDiskSince, IsReadAs, expecting}
 use Rattle.gix_index.specs.declared.file.File.{File}
 use Rattle.gix_index.specs.declared.file.unfollowed.Unfollowed.{Unfollowed}
 use Rattle.index_file_faults.specs.declared.init.Error.{Error}
@@ -39,11 +40,14 @@ IsReadOf r f = (bytes : List ℕ) × IsAnswerBy r bytes (Ok (contents (state_of 
 abbrev pub IsFileRead : Known → ReadOptions → File → Type 0
 IsFileRead own r f = IsReadAs own r.skip_hash r.object_hash r.timestamp r.options (contents (state_of f)) (checksum_of f)
 
-abbrev pub IsReadAloneBy : ReadOptions → List ℕ → Unfollowed → Type 0
-IsReadAloneBy r bytes u = IsReadAloneIn r.skip_hash r.object_hash r.timestamp r.options bytes u
+-- these bytes are read so by themselves, and those behind their entries are told, where they are kept
+pub record IsReadKeeping (keeps : Bool) (r : ReadOptions) (bytes : List ℕ) (u : Unfollowed) : Type 0 where
+  pub read : IsAnswerBy r bytes (Ok (contents (state_of u.index), checksum_of u.index))
+  pub ending : keeps ≡ true → FollowEntries r.object_hash bytes u.ending.items
 
-abbrev pub IsFileReadAlone : Known → ReadOptions → Unfollowed → Type 0
-IsFileReadAlone known r u = IsReadAlone known r.skip_hash r.object_hash r.timestamp r.options u
+-- the file's bytes are
+abbrev pub IsFileReadKeeping : Bool → ReadOptions → Known → Unfollowed → Type 0
+IsFileReadKeeping keeps r known u = (bytes : List ℕ) × MayHave known bytes × IsReadKeeping keeps r bytes u
 
 -- the bytes are no index
 abbrev pub IsNoIndex : Kind → List ℕ → Type 0

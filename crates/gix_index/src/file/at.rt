@@ -2,44 +2,31 @@
 
 ghost use Rattle.std.specs.Prelude.{◌≡◌, false, true, IfErr, IfOk, IsOk, None, Ok};
 ghost use Rattle.std.specs.Path.{path_buf_bytes, path_bytes};
-ghost use Rattle.index_folder.specs.World.{whole_of};
 ghost use Rattle.index_format.specs.declared.decode.Options.{Options};
 ghost use Rattle.index_parts.specs.declared.hash.ObjectId.{ObjectId};
 ghost use Rattle.gix_index.specs.Disk.{IsTimeFor, known_of, shared_path};
 ghost use Rattle.gix_index.specs.File.{path_of, state_of};
 ghost use Rattle.gix_index.specs.File.{IsFileOf, IsWholeFile};
 ghost use Rattle.gix_index.specs.ReadFile.{FollowsTo, IsFileRead, IsFound, IsReadOf, IsSharedRead, Loads, Opens, Reads};
-ghost use Rattle.gix_index.specs.ReadFile.{SaysOfAny, SaysOfFileBy, SaysOfFinding, SaysOfFollowing, SaysOfShared};
+ghost use Rattle.gix_index.specs.ReadFile.{SaysOfFinding, SaysOfFollowing, SaysOfShared};
 ghost use Rattle.index_state.specs.State.{IsWellFormed};
 ghost use Rattle.gix_index.specs.OnDisk.{FindsIn, IsSharedPath, LoadsIn, OpensIn, ReadsIn, SaysOfFindingIn};
-ghost use Rattle.gix_index.specs.OnDisk.{SaysOfFollowingIn, SaysOfSharedIn, SaysOfSource};
+ghost use Rattle.gix_index.specs.OnDisk.{SaysOfFollowingIn, SaysOfSharedIn};
 
 use super::File;
-use super::init::{Error, decoded};
+use super::init::Error;
 use super::split::take_followed_link;
-use index_folder::fault::PathError;
+use super::unfollowed::{read_fault, read_file};
 use index_folder::folder::{Folder, Source};
 use index_format::decode;
 use index_metadata::entry::FileTime;
 use index_parts::hash::{Kind, ObjectId};
 use index_state::State;
 use index_window::ReadOptions;
-use index_window::disk::bytes_of;
-use index_window::large::in_windows;
 use std::alloc::{AllocError, Global};
 use std::io;
 use std::io::ErrorKind;
 use std::path::{Path, PathBuf};
-
-/// What it says that a file can't be opened or read.
-pub(super) fn read_fault(path: PathBuf, error: io::Error) -> Error
-    ensures { SaysOfAny (path_buf_bytes path) error result }
-{
-    if error.kind() == ErrorKind::OutOfMemory {
-        return Error::Memory;
-    }
-    Error::Io(PathError { path, error })
-}
 
 /// The path of the shared index with this id (gitformat-index, "Split index"): in the folder of the split one, whose
 /// path is given, it is named `sharedindex.` with the id in lower-case base 16. An error is want of memory.
@@ -48,35 +35,6 @@ pub fn shared_path(alloc: Global, path: Path<'_>, id: &ObjectId) -> Result<PathB
 {
     let name = format!(in alloc; "sharedindex.{id}")?;
     path.with_file_name(alloc, name.as_str())
-}
-
-/// The index in an opened file, which isn't followed: read in windows, or else whole.
-fn read_file<S: Source>(
-    alloc: Global,
-    mut file: S,
-    path: PathBuf,
-    reading: ReadOptions,
-) -> Result<File, Error>
-    requires { S.remaining file ≡ whole_of (S.stored file) }
-    ensures read { IfOk result (IsFileRead (known_of (S.stored file)) reading) }
-    ensures formed { IfOk result (IsFileOf (path_buf_bytes path) reading.object_hash) }
-    ensures fault { IfErr result (SaysOfSource S.Source file path reading) }
-{
-    match in_windows(alloc, &mut file, reading, false) {
-        Ok(Some(read)) => {
-            return Ok(File {
-                state: State::from(read.parts),
-                path,
-                checksum: read.checksum,
-            });
-        }
-        Ok(None) => {}
-        Err(e) => return Err(read_fault(path, e)),
-    }
-    match bytes_of(alloc, file, reading.object_hash, reading.skip_hash) {
-        Ok((bytes, digest)) => decoded(alloc, &bytes, digest, path, reading),
-        Err(e) => Err(read_fault(path, e)),
-    }
 }
 
 /// The shared index beside the index at a path, which must have this id as its trailer, or a null one.
@@ -98,8 +56,14 @@ fn shared_at<D: Folder>(
     };
     let mut options = reading.options;
     options.expected_checksum = Some(id);
-    let index = read_file(alloc, file, shared, ReadOptions { options, ..reading })?;
-    Ok(index.into_parts().0)
+    let read = read_file(
+        alloc,
+        file,
+        shared,
+        ReadOptions { options, ..reading },
+        false,
+    )?;
+    Ok(read.index.into_parts().0)
 }
 
 /// Takes the file's link out, and merges what it links to.
@@ -171,8 +135,8 @@ pub(super) fn read_from<D: Folder>(
         timestamp,
         ..reading
     };
-    let index = read_file(alloc, file, path, reading)?;
-    follow(folder, alloc, index, reading)
+    let read = read_file(alloc, file, path, reading, false)?;
+    follow(folder, alloc, read.index, reading)
 }
 
 impl File {

@@ -1,6 +1,5 @@
 //! Writing a `File`: the state's bytes, and their digest behind them.
 
-ghost use Rattle.std.specs.Prelude.{◌≡◌, true, false};
 ghost use Rattle.index_state.specs.State.{contents};
 ghost use Rattle.gix_index.specs.WrittenFile.{PutsBodyTo, PutsFile};
 
@@ -11,38 +10,7 @@ use index_parts::hash::ObjectId;
 use index_parts::hash::io::{Out, Write};
 use index_state::State;
 
-/// Writes all but the trailer, and gives the digest of that.
-fn put_hashed<W: Out>(
-    state: &State,
-    out: &mut W,
-    options: Options,
-) -> Result<(Version, ObjectId), Error>
-    requires { options.skip_hash ≡ false }
-    ensures { PutsBodyTo W.Out out.old out.new result (contents state.now) options }
-{
-    let mut hashing = Write::new(out, state.object_hash());
-    let result = state.write_to(&mut hashing, options);
-    let Write { inner, hash } = hashing;
-    // No effect at run time. The proof reads what `out` holds from this use of `inner`.
-    let _ = &*inner;
-    let version = result?;
-    Ok((version, hash.finalize()))
-}
-
-/// Writes all but the trailer, and gives the null id.
-fn put_unhashed<W: Out>(
-    state: &State,
-    out: &mut W,
-    options: Options,
-) -> Result<(Version, ObjectId), Error>
-    requires { options.skip_hash ≡ true }
-    ensures { PutsBodyTo W.Out out.old out.new result (contents state.now) options }
-{
-    let version = state.write_to(out, options)?;
-    Ok((version, state.object_hash().null()))
-}
-
-/// Writes all but the trailer, and gives the id that is to stand behind it.
+/// Writes all but the trailer, and gives the id that is to stand behind it: the digest of that, or the null id.
 fn put_body<W: Out>(
     state: &State,
     out: &mut W,
@@ -51,10 +19,16 @@ fn put_body<W: Out>(
     ensures { PutsBodyTo W.Out out.old out.new result (contents state.now) options }
 {
     if options.skip_hash {
-        put_unhashed(state, out, options)
-    } else {
-        put_hashed(state, out, options)
+        let version = state.write_to(out, options)?;
+        return Ok((version, state.object_hash().null()));
     }
+    let mut hashing = Write::new(out, state.object_hash());
+    let result = state.write_to(&mut hashing, options);
+    let Write { inner, hash } = hashing;
+    // No effect at run time. The proof reads what `out` holds from this use of `inner`.
+    let _ = &*inner;
+    let version = result?;
+    Ok((version, hash.finalize()))
 }
 
 impl File {

@@ -1,4 +1,4 @@
-//! Reading an index from the disk by itself, with the bytes behind its entries.
+//! Reading an index from the disk by itself: in windows or whole, with the bytes behind its entries or without.
 
 ghost use Rattle.std.specs.Prelude.{◌≡◌, Option, IfErr, IfNone, IfOk, IfSome, Ok};
 ghost use Rattle.std.specs.Path.{path_buf_bytes};
@@ -11,12 +11,13 @@ ghost use Rattle.gix_index.specs.Disk.{known_of};
 ghost use Rattle.gix_index.specs.FileFaults.{SaysOfFile};
 ghost use Rattle.gix_index.specs.File.{IsFileOf};
 ghost use Rattle.gix_index.specs.Linked.{IsReadAlone};
-ghost use Rattle.gix_index.specs.ReadFile.{IsFileReadAlone, IsNoIndex, IsReadAloneBy, SaysOfFileBy, SaysOfHolder};
+ghost use Rattle.gix_index.specs.ReadFile.{IsFileReadKeeping, IsNoIndex, IsReadKeeping, SaysOfAny, SaysOfFileBy};
+ghost use Rattle.gix_index.specs.ReadFile.{SaysOfHolder};
 ghost use Rattle.gix_index.specs.OnDisk.{IsAloneOf, ReadsAloneAt, SaysOfSource};
 
 use super::File;
-use super::at::read_fault;
 use super::init::{Error, decoded};
+use index_folder::fault::PathError;
 use index_folder::folder::{Folder, Source};
 use index_format::decode;
 use index_metadata::entry::FileTime;
@@ -28,6 +29,8 @@ use index_window::disk::bytes_of;
 use index_window::large::in_windows;
 use index_window::passed::pass_entries;
 use std::alloc::Global;
+use std::io;
+use std::io::ErrorKind;
 use std::path::PathBuf;
 
 /// An index that was read by itself, and the end of its file.
@@ -37,6 +40,16 @@ pub struct Unfollowed {
     pub index: File,
     /// The bytes behind its entries: the extensions and the trailer.
     pub ending: Vec<u8>,
+}
+
+/// What it says that a file can't be opened or read.
+pub(super) fn read_fault(path: PathBuf, error: io::Error) -> Error
+    ensures { SaysOfAny (path_buf_bytes path) error result }
+{
+    if error.kind() == ErrorKind::OutOfMemory {
+        return Error::Memory;
+    }
+    Error::Io(PathError { path, error })
 }
 
 /// The bytes behind the entries of a file; None only where it is no index.
@@ -53,22 +66,27 @@ fn behind_entries(kind: Kind, bytes: &[u8]) -> Option<&[u8]>
     }
 }
 
-/// The index in all bytes of a file, with those behind its entries. The digest is taken where it is to be compared and
-/// isn't known yet.
+/// The index in all bytes of a file, with those behind its entries where they are kept. The digest is taken where it is
+/// to be compared and isn't known yet.
 fn decoded_whole(
     alloc: Global,
     bytes: &[u8],
     known: Option<ObjectId>,
     path: PathBuf,
     reading: ReadOptions,
+    keeps_ending: bool,
 ) -> Result<Unfollowed, Error>
     requires known { IfSome known (λ id. id ≡ digest_id reading.object_hash bytes.now) }
-    ensures read { IfOk result (IsReadAloneBy reading bytes.now) }
+    ensures read { IfOk result (IsReadKeeping keeps_ending reading bytes.now) }
     ensures formed { IfOk result
         (IsAloneOf (path_buf_bytes path) reading.object_hash) }
     ensures fault { IfErr result (SaysOfHolder (path_buf_bytes path) bytes.now reading) }
 {
     let index = decoded(alloc, bytes, known, path, reading)?;
+    if !keeps_ending {
+        let ending = Vec::new(alloc);
+        return Ok(Unfollowed { index, ending });
+    }
     let Some(rest) = behind_entries(reading.object_hash, bytes) else {
         unreachable!()
     };
@@ -77,21 +95,24 @@ fn decoded_whole(
     Ok(Unfollowed { index, ending })
 }
 
-/// The same of an opened file: read in windows, or else whole.
-fn read_alone<S: Source>(
+/// The index in an opened file, which isn't followed: read in windows, or else whole. The bytes behind its entries are
+/// with it where they are kept, and else none or some of them.
+pub(super) fn read_file<S: Source>(
     alloc: Global,
     mut file: S,
     path: PathBuf,
     reading: ReadOptions,
+    keeps_ending: bool,
 ) -> Result<Unfollowed, Error>
     requires { S.remaining file ≡ whole_of (S.stored file) }
-    ensures read { IfOk result (IsFileReadAlone (known_of (S.stored file)) reading) }
+    ensures read { IfOk result
+        (IsFileReadKeeping keeps_ending reading (known_of (S.stored file))) }
     ensures formed { IfOk result
         (IsAloneOf (path_buf_bytes path) reading.object_hash) }
     ensures fault { IfErr result
         (SaysOfSource S.Source file path reading) }
 {
-    match in_windows(alloc, &mut file, reading, true) {
+    match in_windows(alloc, &mut file, reading, keeps_ending) {
         Ok(Some(read)) => {
             return Ok(Unfollowed {
                 index: File {
@@ -106,7 +127,7 @@ fn read_alone<S: Source>(
         Err(e) => return Err(read_fault(path, e)),
     }
     match bytes_of(alloc, file, reading.object_hash, reading.skip_hash) {
-        Ok((bytes, digest)) => decoded_whole(alloc, &bytes, digest, path, reading),
+        Ok((bytes, digest)) => decoded_whole(alloc, &bytes, digest, path, reading, keeps_ending),
         Err(e) => Err(read_fault(path, e)),
     }
 }
@@ -137,7 +158,7 @@ impl File {
             options,
         };
         match folder.open(path.as_path()) {
-            Ok(file) => read_alone(alloc, file, path, reading),
+            Ok(file) => read_file(alloc, file, path, reading, true),
             Err(e) => Err(read_fault(path, e)),
         }
     }

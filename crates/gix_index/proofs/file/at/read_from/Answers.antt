@@ -1,4 +1,4 @@
-use Rattle.std.proofs.Common.{refl}
+use Rattle.std.proofs.Common.{false, refl}
 use Rattle.std.proofs.lemmas.Bool.{false≢true}
 use Rattle.std.proofs.lemmas.Result.{err_from_is_err_and}
 use Rattle.std.specs.Prelude.{IsTrue}
@@ -7,7 +7,7 @@ use Rattle.index_folder.specs.World.{Known, MayBeMissing}
 use Rattle.gix_index.specs.Disk.{disk_beside, known_of, shared_path}
 use Rattle.index_state.specs.State.{contents}
 use Rattle.gix_index.specs.File.{IsEmptyFile, checksum_of, path_of, state_of}
-use Rattle.gix_index.proofs.FileFaults.{fault_followed, of_own, read_followed}
+use Rattle.gix_index.proofs.FileFaults.{fault_followed, file_read, of_own, read_followed}
 use Rattle.gix_index.proofs.ReadsBy.{fault_at, own_fault_at, read_at}
 use Rattle.gix_index.proofs.file.at.read_from.Goals as goal
 
@@ -40,10 +40,10 @@ returns-in-Err-time_of-clause-fault g c =
     )
 
 pub follow-requires-clause-read : goal.follow-requires-clause-read
-follow-requires-clause-read g c = let h = c.in_ok-index.ensures.read in (h.bytes, h.read)
+follow-requires-clause-read g c = let h = c.in_ok-read.ensures.read in (h.0, h.2.read)
 
-pub returns-in_err-index-clause-fault : goal.returns-in_err-index-clause-fault
-returns-in_err-index-clause-fault g c =
+pub returns-in_err-read-clause-fault : goal.returns-in_err-read-clause-fault
+returns-in_err-read-clause-fault g c =
     let r = c.args.reading in
     let world = g.D.Folder.known c.args.folder.now in
     let path = path_buf_bytes c.args.path in
@@ -51,8 +51,8 @@ returns-in_err-index-clause-fault g c =
     rw (p.1, p.2) (own_fault_at r.skip_hash r.object_hash r.options (g.D.Folder.works c.args.folder.now)
     (g.D.File.Source.works c.in-Ok.file) c.args.has_time r.timestamp c.in-Ok-time_of.timestamp path
     (world (path_bytes c.args.at)) (g.D.File.Source.stored c.in-Ok.file) (λ id. world (shared_path path id))
-    c.in_err-index.field-0.0 c.in-Ok.ensures.works c.in-Ok.ensures.opened c.in-Ok-time_of.ensures.time
-    c.in_err-index.ensures.fault)
+    c.in_err-read.field-0.0 c.in-Ok.ensures.works c.in-Ok.ensures.opened c.in-Ok-time_of.ensures.time
+    c.in_err-read.ensures.fault)
 
 pub returns-clause-read : goal.returns-clause-read
 returns-clause-read g c =
@@ -61,14 +61,14 @@ returns-clause-read g c =
     let world = g.D.Folder.known c.args.folder.now in
     let own = world (path_bytes c.args.at) in
     let stored = g.D.File.Source.stored c.in-Ok.file in
-    let index = c.in_ok-index.index in
+    let index = c.in_ok-read.read.index in
     read_at r.skip_hash r.object_hash r.options c.args.has_time r.timestamp time own
     stored (λ id. world (shared_path (path_buf_bytes c.args.path) id))
     (λ f. IsTrue c.args.or_default × MayBeMissing own × IsEmptyFile r.object_hash r.timestamp f)
     c.follow.result c.in-Ok.ensures.opened c.in-Ok-time_of.ensures.time
-    (rw c.in_ok-index.ensures.formed.path at (read_followed r.skip_hash r.object_hash time r.options
+    (rw c.in_ok-read.ensures.formed.path at (read_followed r.skip_hash r.object_hash time r.options
     (λ (k : Known). disk_beside k world (path_of index)) (known_of stored) (contents (state_of index))
-    (checksum_of index) c.follow.result c.in_ok-index.ensures.read c.follow.ensures.read))
+    (checksum_of index) c.follow.result (file_read _ (known_of stored) false _ c.in_ok-read.ensures.read) c.follow.ensures.read))
 
 pub returns-clause-fault : goal.returns-clause-fault
 returns-clause-fault g c =
@@ -78,10 +78,10 @@ returns-clause-fault g c =
     let works = g.D.Folder.works c.args.folder.now in
     let path = path_buf_bytes c.args.path in
     let stored = g.D.File.Source.stored c.in-Ok.file in
-    let index = c.in_ok-index.index in
+    let index = c.in_ok-read.read.index in
     fault_at r.skip_hash r.object_hash r.options works c.args.has_time r.timestamp time path
     (world (path_bytes c.args.at)) stored (λ id. world (shared_path path id))
     c.follow.result c.in-Ok.ensures.opened c.in-Ok-time_of.ensures.time
-    (rw c.in_ok-index.ensures.formed.path at (fault_followed r.skip_hash r.object_hash time r.options (path_of index) works
+    (rw c.in_ok-read.ensures.formed.path at (fault_followed r.skip_hash r.object_hash time r.options (path_of index) works
     (λ (k : Known). disk_beside k world (path_of index)) (known_of stored) (contents (state_of index))
-    (checksum_of index) c.follow.result c.in_ok-index.ensures.read c.follow.ensures.fault))
+    (checksum_of index) c.follow.result (file_read _ (known_of stored) false _ c.in_ok-read.ensures.read) c.follow.ensures.fault))

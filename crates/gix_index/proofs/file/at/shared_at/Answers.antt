@@ -1,12 +1,12 @@
-use Rattle.std.proofs.Common.{List, ℕ, subst, ◌∙◌}
+use Rattle.std.proofs.Common.{List, ℕ, false, subst, ◌∙◌}
 use Rattle.std.proofs.lemmas.Result.{err_from_is_err_and}
 use Rattle.std.specs.Path.{path_buf_bytes, path_bytes}
 use Rattle.index_state.specs.State.{contents}
-use Rattle.gix_index.specs.Disk.{shared_path}
 use Rattle.gix_index.specs.File.{checksum_of, state_of}
 use Rattle.gix_index.specs.FileFaults.{SaysOfFile}
 use Rattle.gix_index.specs.Linked.{IsReadAs, expecting}
-use Rattle.gix_index.proofs.FileFaults.{fault_there, read_there}
+use Rattle.gix_index.specs.Disk.{known_of, shared_path}
+use Rattle.gix_index.proofs.FileFaults.{fault_there, file_read, read_there}
 use Rattle.gix_index.proofs.file.at.shared_at.Goals as goal
 
 pub returns-in-Err-clause-fault : goal.returns-in-Err-clause-fault
@@ -24,24 +24,24 @@ returns-clause-read g c =
     let r = c.args.reading in
     let options = expecting r.options c.args.id in
     let world = g.D.Folder.known c.args.folder.now in
-    let index = c.in_ok-index.index in (
+    let index = c.in_ok-read.read.index in (
       checksum_of index,
       rw c.into_parts.ensures.state (subst
           (λ (x : List ℕ). IsReadAs (world x) r.skip_hash r.object_hash r.timestamp options (contents (state_of index))
           (checksum_of index)) (c.as_path.ensures ∙ c.in_ok-shared.ensures)
           (read_there r.skip_hash r.object_hash r.timestamp options (world (path_bytes c.as_path.result))
           (g.D.File.Source.stored c.in-Ok.file) (contents (state_of index)) (checksum_of index) c.in-Ok.ensures.opened
-          c.in_ok-index.ensures.read)),
+          (file_read _ (known_of (g.D.File.Source.stored c.in-Ok.file)) false _ c.in_ok-read.ensures.read))),
     )
 
-pub returns-in_err-index-clause-fault : goal.returns-in_err-index-clause-fault
-returns-in_err-index-clause-fault g c =
+pub returns-in_err-read-clause-fault : goal.returns-in_err-read-clause-fault
+returns-in_err-read-clause-fault g c =
     let r = c.args.reading in
     let options = expecting r.options c.args.id in
     let world = g.D.Folder.known c.args.folder.now in
     let works = g.D.Folder.works c.args.folder.now in
-    let e = c.in_err-index.field-0.0 in
-    let p = err_from_is_err_and c.from_residual-in_err-index.result c.from_residual-in_err-index.ensures.1 in
+    let e = c.in_err-read.field-0.0 in
+    let p = err_from_is_err_and c.from_residual-in_err-read.result c.from_residual-in_err-read.ensures.1 in
     rw (p.1, p.2) (subst
     (λ (x : List ℕ). SaysOfFile x works (world x) r.skip_hash r.object_hash r.timestamp options e)
     c.in_ok-shared.ensures (subst
@@ -49,4 +49,4 @@ returns-in_err-index-clause-fault g c =
     r.timestamp options e) c.as_path.ensures
     (fault_there r.skip_hash r.object_hash r.timestamp options (path_buf_bytes c.in_ok-shared.shared) works
     (g.D.File.Source.works c.in-Ok.file) (world (path_bytes c.as_path.result)) (g.D.File.Source.stored c.in-Ok.file) e
-    c.in-Ok.ensures.works c.in-Ok.ensures.opened c.in_err-index.ensures.fault)))
+    c.in-Ok.ensures.works c.in-Ok.ensures.opened c.in_err-read.ensures.fault)))

@@ -1,7 +1,7 @@
-use Rattle.std.proofs.Common.{inl, refl, ◌∙◌}
+use Rattle.std.proofs.Common.{inl, ◌∙◌}
 use Rattle.gix_index.proofs.Checks.{to_file}
 use Rattle.gix_index.proofs.FileFaults.{held_by}
-use Rattle.gix_index.proofs.file.unfollowed.read_alone.Goals as goal
+use Rattle.gix_index.proofs.file.unfollowed.read_file.Goals as goal
 
 pub returns-in-Ok-Some-clause-read : goal.returns-in-Ok-Some-clause-read
 returns-in-Ok-Some-clause-read g c =
@@ -11,7 +11,7 @@ returns-in-Ok-Some-clause-read g c =
       held_by (g.S.Source.stored c.args.file) h.0 h.1,
       record {
         read = rw c.from.ensures (to_file r.skip_hash r.object_hash r.timestamp r.options h.0 _ h.2 h.3);
-        ending = h.4 refl;
+        ending = h.4;
       },
     )
 
