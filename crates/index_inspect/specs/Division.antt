@@ -20,6 +20,7 @@ use Rattle.gix_index.specs.Record.{Record}
 use Rattle.gix_index.specs.Version.{Version}
 use Rattle.gix_index.specs.Walk.{Item, AreItems, IsItem, NoItem, left_of}
 use Rattle.index_map.specs.Piece.{Piece, item_pieces, laid, one_piece, some_piece}
+use Rattle.index_inspect.specs.declared.division.Division.{Division}
 use Rattle.index_inspect.specs.Spelling.{Spelling, AreSpelled, entries_spelled, entry_pieces}
 use Rattle.index_map.specs.declared.part.Part.{Part}
 use Rattle.index_map.specs.declared.part.What.TheVariants as whats
@@ -112,3 +113,7 @@ pub record Divides (kind : Kind) (bytes : List ℕ) (rs : List Record) (parts : 
   pub is_divided : IsDivided kind bytes rs pieces fault
   pub are : parts ≡ laid 0 pieces
   pub told : TellsFault error fault
+
+-- a division is that of the bytes of a file
+abbrev pub IsDivisionOf : Kind → List ℕ → Division → Type 0
+IsDivisionOf kind bytes d = Divides kind bytes d.entries.records d.parts.items d.fault

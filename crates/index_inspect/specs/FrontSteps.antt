@@ -9,7 +9,8 @@ use Rattle.gix_index.specs.Record.{Record}
 use Rattle.gix_index.specs.Version.{Version}
 use Rattle.gix_index.specs.Version.TheVariants.{V2, V3, V4}
 use Rattle.index_inspect.specs.Division.{NoEntryBehind}
-use Rattle.index_map.specs.Piece.{laid, one_piece}
+use Rattle.index_map.specs.Piece.{laid, one_piece, some_piece}
+use Rattle.index_inspect.specs.declared.front.Front.{Front}
 use Rattle.index_inspect.specs.Spelling.{Spelling, AreSpelled, entries_spelled, entry_pieces}
 use Rattle.index_map.specs.declared.part.Part.{Part}
 use Rattle.index_map.specs.declared.part.What.TheVariants as whats
@@ -32,3 +33,13 @@ pub record IsFront (version : Version) (kind : Kind) (count : ℕ) (bytes : List
   pub records : rs ≡ entries_spelled spellings
   pub are : parts ≡ laid 0 (one_piece whats.Header (take header_len bytes) ++ entry_pieces 0 spellings)
   pub ended : (length spellings ≡ count) ⊎ ((length spellings < count) × NoEntryBehind version kind spellings rest)
+
+-- a front is that of a file, so many entries of which were looked for
+abbrev pub IsFrontOf : Version → Kind → ℕ → List ℕ → Front → Type 0
+IsFrontOf version kind count bytes f = IsFront version kind count bytes f.entries.records f.parts.items f.rest.now
+
+-- the parts of an entry came behind others: so many bytes of its own, and so many of padding
+abbrev pub LaysEntry : ℕ → ℕ → ℕ → ℕ → List Part → List Part → Type 0
+LaysEntry offset number own padding old new =
+    (bytes filling : List ℕ) → length bytes ≡ own → length filling ≡ padding
+    → new ≡ old ++ laid offset (one_piece (whats.Entry number) bytes ++ some_piece whats.Padding filling)

@@ -1,10 +1,11 @@
 -- What the walk over extensions with their places has found (gitformat-index, "Extensions").
 -- Public clauses cite none of these.
-use Rattle.std.specs.Prelude.{◌≡◌, ℕ, ◌+◌, List, ◌++◌, length, Some, MatchOption}
+use Rattle.std.specs.Prelude.{◌≡◌, ℕ, ◌+◌, List, ◌++◌, length, Option, Some, MatchOption}
 use Rattle.gix_index.specs.DecodeErrors.{extension_fault}
 use Rattle.gix_index.specs.ExtensionError.{Extension}
 use Rattle.gix_index.specs.Kind.{Kind}
-use Rattle.gix_index.specs.Link.{LinkFault, IsLinkFault}
+use Rattle.gix_index.specs.Link.{LinkFault, IsLinkFault, SaysLink}
+use Rattle.gix_index.specs.LinkError.{Error as LinkError}
 use Rattle.gix_index.specs.Outcome.{AreSound, ExtensionFault, IsFault, Link}
 use Rattle.gix_index.specs.Walk.{Item, AreItems, IsItem, NoItem, left_of}
 use Rattle.index_map.specs.Piece.{item_pieces, laid}
@@ -19,6 +20,10 @@ IsSoundLink kind content = (f : LinkFault) → IsLinkFault kind content f → �
 abbrev pub TellsLink : Kind → List ℕ → Extension → Type 0
 TellsLink kind content e = (f : LinkFault) × ((extension_fault e ≡ Some (Link f)) × IsLinkFault kind content f)
 
+-- what an error of reading a link says, an error of its extension says
+abbrev pub TellsAsLink : LinkError → Extension → Type 0
+TellsAsLink e told = (kind : Kind) (content : List ℕ) → SaysLink kind content e → TellsLink kind content told
+
 -- the extension has no fault, however its size is spelled
 abbrev pub IsSoundItem : Kind → List ℕ → List ℕ → Type 0
 IsSoundItem kind signature content = (size : List ℕ) (fault : ExtensionFault)
@@ -28,6 +33,11 @@ IsSoundItem kind signature content = (size : List ℕ) (fault : ExtensionFault)
 abbrev pub TellsItem : Kind → List ℕ → List ℕ → Extension → Type 0
 TellsItem kind signature content e = (size : List ℕ) → (fault : ExtensionFault) × ((extension_fault e ≡ Some fault)
     × IsFault kind (record { signature = signature; size = size; content = content }) fault)
+
+-- it has none, or the one that the error stands for
+abbrev pub IsItemFault : Kind → List ℕ → List ℕ → Option Extension → Type 0
+IsItemFault kind signature content e =
+    MatchOption e (IsSoundItem kind signature content) (TellsItem kind signature content)
 
 -- the bytes begin with an extension at fault, for which an error stands
 pub record IsAtFault (kind : Kind) (tail : List ℕ) (e : Extension) : Type 0 where

@@ -41,6 +41,11 @@ pub record IsReadAndSaved (v : Contents) (r : Remains) (shared : Option Contents
   pub remain : Remain kind bytes r
   pub saves : Saves r shared s
 
+-- it is so wherever bytes are read as a value, this remains of them, and this is saved
+abbrev pub EachSaved : (Contents → Remains → Option Contents → Salvaged → Type 0) → Type 0
+EachSaved P =
+    (v : Contents) (r : Remains) (shared : Option Contents) (s : Salvaged) → IsReadAndSaved v r shared s → P v r shared s
+
 -- no shared index has entries of its own: the index links to none, or none is given
 abbrev pub IsAlone : Contents → Option Contents → Type 0
 IsAlone v shared = (v.extensions.link ≡ None) ⊎ (shared ≡ None)

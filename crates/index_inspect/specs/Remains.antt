@@ -72,6 +72,10 @@ part_bytes bytes p = take p.len (drop p.offset bytes)
 abbrev pub link_content : List ℕ → List Part → Option (List ℕ)
 link_content bytes parts = option_map (part_bytes bytes) (last_link parts)
 
+-- the link that stands whole among the parts of these bytes, or none
+abbrev pub IsLinkAmong : Kind → List ℕ → List Part → Option LinkValue → Type 0
+IsLinkAmong kind bytes parts link = IsValue (IsLink kind) (link_content bytes parts) link
+
 -- the id of the shared index that a link names, unless it is null
 abbrev pub wanted_id : Option LinkValue → Option ObjectId
 wanted_id None = None

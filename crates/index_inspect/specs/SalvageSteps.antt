@@ -1,13 +1,15 @@
 -- What the steps of saving entries have made (the library's own). Public clauses cite none of these.
-use Rattle.std.specs.Prelude.{◌≡◌, ◌≢◌, ◌≤◌, ◌<◌, ◌-◌, ℕ, List, [], Bool, Option, length, take, slice_index_or}
+use Rattle.std.specs.Prelude.{◌≡◌, ◌≢◌, ◌≤◌, ◌<◌, ◌-◌, ℕ, List, [], Bool, Option, Some, All, length, take, slice_index_or}
 use Rattle.std.specs.declared.cmp.Ordering.TheVariants.{Less}
 use Rattle.gix_index.specs.Contents.{Contents}
 use Rattle.gix_index.specs.Edits.{empty_contents, refit}
+use Rattle.gix_index.specs.EntryType.{Entry}
 use Rattle.gix_index.specs.FileTime.{FileTime}
 use Rattle.gix_index.specs.Kind.{Kind}
 use Rattle.gix_index.specs.Link.{LinkValue}
 use Rattle.gix_index.specs.Order.{record_cmp}
-use Rattle.gix_index.specs.Record.{Record}
+use Rattle.gix_index.specs.Record.{IsPlaced, Record, records_in}
+use Rattle.gix_index.specs.Sorted.{IsOrdered}
 use Rattle.gix_index.specs.State.{PathsInStorage, contents, records}
 use Rattle.gix_index.specs.StateType.{State}
 use Rattle.gix_index.specs.Storable.{IsStorable}
@@ -34,6 +36,19 @@ pub record Completes (link : Option LinkValue) (found : Bool) (shared : Option C
   pub is : IsCompleted link found shared (records own) (records c.state) c.shared
   pub same_kind : (contents c.state).kind ≡ (contents own).kind
   pub index : IsPlainIndex own → IsIndexOf (contents own).kind (records c.state) c.state
+
+-- the same with a link that was read and a shared index that is given, whether or not a link was found
+abbrev pub Joins : LinkValue → Contents → State → Completed → Type 0
+Joins link shared own c = (found : Bool) → Completes (Some link) found (Some shared) own c
+
+-- where entries are in order, those that are saved of them are left
+abbrev pub LeavesFirsts : List ℕ → List Entry → List Entry → Type 0
+LeavesFirsts storage old new = IsOrdered (records_in storage old)
+    → IsSavedOf (records_in storage old) (records_in storage new)
+
+-- where the paths of entries lie in a storage, those of the others do
+abbrev pub StayPlaced : List ℕ → List Entry → List Entry → Type 0
+StayPlaced storage old new = All (IsPlaced (length storage)) old → All (IsPlaced (length storage)) new
 
 -- the record at a place has a path, and stands above the last of the first ones, so many of which are kept
 abbrev pub IsAbove : List Record → ℕ → ℕ → Type 0

@@ -6,7 +6,7 @@ ghost use Rattle.gix_index.specs.HeaderErrors.{header_fault};
 ghost use Rattle.gix_index.specs.Id.{id_len};
 ghost use Rattle.gix_index.specs.Kind.{Kind as KindType};
 ghost use Rattle.gix_index.specs.Walk.{NoItem, left_of};
-ghost use Rattle.index_inspect.specs.Division.{Divides, IsCrowded, NoEntryBehind, unread_piece};
+ghost use Rattle.index_inspect.specs.Division.{Divides, IsCrowded, IsDivisionOf, NoEntryBehind, unread_piece};
 ghost use Rattle.index_inspect.specs.DivisionSteps.{EndsDivision, EndsIn, GoesOn, WalksOn};
 ghost use Rattle.index_map.specs.Piece.{LieBetween, laid};
 ghost use Rattle.index_inspect.specs.Spelling.{Spelling};
@@ -179,7 +179,7 @@ fn behind_entries(
 fn headless(alloc: Global, bytes: &[u8], fault: header::Error) -> Result<Division, AllocError>
     ensures { IfOk result (λ d. (kind : KindType)
         → header_of kind bytes.now ≡ Err (header_fault fault)
-        → Divides kind bytes.now d.entries.records d.parts.items d.fault) }
+        → IsDivisionOf kind bytes.now d) }
 {
     let Ending { parts, fault } = refused(Vec::new(alloc), 0, bytes, Error::Header(fault))?;
     let entries = EntryList::new(alloc);
@@ -197,8 +197,7 @@ fn headless(alloc: Global, bytes: &[u8], fault: header::Error) -> Result<Divisio
 /// can't be there is found where one is missing. The digest is compared, unless the trailer is null; a link isn't
 /// followed. An error is want of memory.
 pub fn divide(alloc: Global, kind: Kind, bytes: &[u8]) -> Result<Division, AllocError>
-    ensures divided { IfOk result
-        (λ d. Divides kind bytes.now d.entries.records d.parts.items d.fault) }
+    ensures divided { IfOk result (IsDivisionOf kind bytes.now) }
     ensures covered { IfOk result (λ d. LieBetween 0 d.parts.items (length bytes.now)) }
 {
     let (version, declared, _) = match header::decode(bytes, kind) {

@@ -2,7 +2,7 @@
 
 ghost use Rattle.std.specs.Prelude.{◌≡◌, ◌≤◌, ◌+◌, ℕ, List, length, drop, take, min, IfOk, OnOk, [], ◌++◌};
 ghost use Rattle.gix_index.specs.Header.{header_len};
-ghost use Rattle.index_inspect.specs.FrontSteps.{IsFront, own_len, head_len};
+ghost use Rattle.index_inspect.specs.FrontSteps.{IsFront, IsFrontOf, LaysEntry, own_len, head_len};
 ghost use Rattle.index_map.specs.Piece.{laid, some_piece, one_piece};
 
 use gix_index::decode::entry::{EntryList, EntryReader, Lent};
@@ -68,9 +68,8 @@ fn push_entry(
     padding: usize,
 ) -> Result<(), AllocError>
     requires { offset + own ≤ 0xffffffffffffffff }
-    ensures { OnOk result ((bytes filling : List ℕ) → length bytes ≡ own → length filling ≡ padding
-        → parts.new.items ≡ parts.old.items
-        ++ laid offset (one_piece (What.Entry number) bytes ++ some_piece What.Padding filling)) }
+    ensures { OnOk result
+        (LaysEntry offset number own padding parts.old.items parts.new.items) }
 {
     push_part(parts, offset, own, What::Entry { number })?;
     push_some(parts, offset + own, padding, What::Padding)
@@ -85,8 +84,7 @@ pub(crate) fn read_front(
     bytes: &[u8],
 ) -> Result<Front<'_>, AllocError>
     requires { header_len ≤ length bytes.now }
-    ensures { IfOk result (λ f. IsFront version kind count bytes.now f.entries.records f.parts.items
-        f.rest.now) }
+    ensures { IfOk result (IsFrontOf version kind count bytes.now) }
 {
     let mut parts = Vec::new(alloc);
     let mut entries = EntryList::new(alloc);

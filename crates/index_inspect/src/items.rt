@@ -4,7 +4,7 @@ ghost use Rattle.std.specs.Prelude.{◌≡◌, ◌≤◌, ◌+◌, ℕ, List, le
 ghost use Rattle.gix_index.specs.Kind.{Kind as KindType};
 ghost use Rattle.gix_index.specs.Link.{HasDelete, SaysLink};
 ghost use Rattle.gix_index.specs.LinkError.TheVariants.{Memory};
-ghost use Rattle.index_inspect.specs.ItemSteps.{IsWalked, IsSoundItem, TellsItem, TellsLink};
+ghost use Rattle.index_inspect.specs.ItemSteps.{IsItemFault, IsWalked, IsSoundItem, TellsAsLink, TellsItem, TellsLink};
 
 use gix_index::decode::Error;
 use gix_index::extension::decode::Error as ExtensionError;
@@ -26,8 +26,7 @@ pub(crate) struct Walked {
 
 /// What an error of reading a link says of the extension, or want of memory.
 fn told(e: link::decode::Error) -> Result<ExtensionError, AllocError>
-    ensures told { IfOk result (λ told. (kind : KindType) (content : List ℕ)
-        → SaysLink kind content e → TellsLink kind content told) }
+    ensures told { IfOk result (TellsAsLink e) }
     ensures memory { IfErr result (λ _. e ≡ Memory) }
 {
     match e {
@@ -49,8 +48,7 @@ fn fault_of(
     signature: Signature,
     content: &[u8],
 ) -> Result<Option<ExtensionError>, AllocError>
-    ensures fault { IfOk result (λ fault. MatchOption fault
-        (IsSoundItem kind signature content.now) (TellsItem kind signature content.now)) }
+    ensures fault { IfOk result (IsItemFault kind signature content.now) }
     ensures memory { IfErr result (λ _. HasDelete kind content.now) }
 {
     if !is_understood(signature, content) {

@@ -3,7 +3,6 @@
 ghost use Rattle.std.specs.Option.{option_map};
 ghost use Rattle.std.specs.Prelude.{◌≡◌, ℕ, List, None, Option, Some, length};
 ghost use Rattle.gix_index.specs.Answer.{Fault};
-ghost use Rattle.gix_index.specs.Contents.{Contents};
 ghost use Rattle.gix_index.specs.DecodeOptions.{Options};
 ghost use Rattle.gix_index.specs.FileTime.{FileTime};
 ghost use Rattle.gix_index.specs.Kind.{Kind};
@@ -12,11 +11,9 @@ ghost use Rattle.gix_index.specs.Link.{link_of};
 ghost use Rattle.gix_index.specs.Record.{Record};
 ghost use Rattle.gix_index.specs.State.{records};
 ghost use Rattle.index_inspect.specs.Division.{IsDivided};
-ghost use Rattle.index_inspect.specs.Laws.{AreWhole, IsAlone, IsReadAndSaved, IsReadAs, IsNoIndex};
+ghost use Rattle.index_inspect.specs.Laws.{AreWhole, EachSaved, IsAlone, IsReadAs, IsNoIndex};
 ghost use Rattle.index_map.specs.Piece.{Piece};
 ghost use Rattle.index_inspect.specs.Salvage.{IsSavedOf};
-ghost use Rattle.index_inspect.specs.declared.remains.Remains.{Remains};
-ghost use Rattle.index_inspect.specs.declared.salvage.Salvaged.{Salvaged};
 
 use gix_index::laws::one_reading;
 
@@ -47,17 +44,13 @@ pub fn damaged_is_unread()
 /// trailer is. Where they are in order already, each once and with a path, as git writes them where there is no link,
 /// what is saved is exactly the entries of the index. What is saved of entries is one list.
 pub fn whole_is_saved()
-    ensures link { (v : Contents) (r : Remains) (shared : Option Contents) (s : Salvaged)
-        → IsReadAndSaved v r shared s → option_map link_of r.link ≡ v.extensions.link }
-    ensures read { (v : Contents) (r : Remains) (shared : Option Contents) (s : Salvaged)
-        → IsReadAndSaved v r shared s → s.read ≡ length v.records }
-    ensures saved { (v : Contents) (r : Remains) (shared : Option Contents) (s : Salvaged)
-        → IsReadAndSaved v r shared s → IsAlone v shared → IsSavedOf v.records (records s.state) }
-    ensures same { (v : Contents) (r : Remains) (shared : Option Contents) (s : Salvaged)
-        → IsReadAndSaved v r shared s → IsAlone v shared → AreWhole v.records
-        → records s.state ≡ v.records }
-    ensures one { (rs kept others : List Record) → IsSavedOf rs kept → IsSavedOf rs others
-        → kept ≡ others }
+    ensures link { EachSaved (λ v r shared s. option_map link_of r.link ≡ v.extensions.link) }
+    ensures read { EachSaved (λ v r shared s. s.read ≡ length v.records) }
+    ensures saved { EachSaved
+        (λ v r shared s. IsAlone v shared → IsSavedOf v.records (records s.state)) }
+    ensures same { EachSaved (λ v r shared s. IsAlone v shared → AreWhole v.records
+        → records s.state ≡ v.records) }
+    ensures one { (rs ks ls : List Record) → IsSavedOf rs ks → IsSavedOf rs ls → ks ≡ ls }
 {
     one_reading();
 }

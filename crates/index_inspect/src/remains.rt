@@ -7,7 +7,7 @@ ghost use Rattle.gix_index.specs.Header.{header_of};
 ghost use Rattle.gix_index.specs.Link.{HasDelete, IsLink, link_of};
 ghost use Rattle.gix_index.specs.State.{contents, records};
 ghost use Rattle.index_map.specs.Piece.{LieBetween};
-ghost use Rattle.index_inspect.specs.Remains.{IsPlainIndex, Remain, SaysLost, has_link, is_link_content, is_link_fault, is_link_head, last_begin, last_link, link_content, wanted_id};
+ghost use Rattle.index_inspect.specs.Remains.{IsLinkAmong, IsPlainIndex, Remain, SaysLost, has_link, is_link_content, is_link_fault, is_link_head, last_begin, last_link, link_content, wanted_id};
 ghost use Rattle.index_inspect.specs.SalvageSteps.{IsIndexOf};
 ghost use Rattle.index_inspect.specs.declared.remains.Error.TheVariants.{Memory};
 
@@ -184,8 +184,8 @@ fn link_in(
     parts: &[Part],
 ) -> Result<Option<Link>, AllocError>
     requires { (place : ℕ) × LieBetween place parts.now (length bytes.now) }
-    ensures link { IfOk result (λ link. IsValue (IsLink kind)
-        (link_content bytes.now parts.now) (option_map link_of link)) }
+    ensures link { IfOk result
+        (λ link. IsLinkAmong kind bytes.now parts.now (option_map link_of link)) }
     ensures memory { IfErr result
         (λ _. IsSomeAnd (link_content bytes.now parts.now) (HasDelete kind)) }
 {

@@ -1,16 +1,15 @@
 //! What can be saved of a damaged index file.
 
-ghost use Rattle.std.specs.Prelude.{◌≡◌, ◌<◌, ◌≤◌, ◌↔◌, All, Bool, IfErr, IfOk, IfSome, IsTrue, Some, false, length};
+ghost use Rattle.std.specs.Prelude.{◌≡◌, ◌<◌, ◌≤◌, ◌↔◌, IfErr, IfOk, IfSome, IsTrue, OnErr, Some, false, length};
 ghost use Rattle.std.specs.Option.{option_map};
 ghost use Rattle.gix_index.specs.Id.{id_bytes, is_null};
 ghost use Rattle.gix_index.specs.Link.{link_of};
-ghost use Rattle.gix_index.specs.Record.{IsPlaced, records_in};
 ghost use Rattle.gix_index.specs.Sorted.{IsOrdered};
 ghost use Rattle.gix_index.specs.State.{contents, records};
 ghost use Rattle.index_inspect.specs.Laws.{AreWhole};
 ghost use Rattle.index_inspect.specs.Remains.{IsPlainIndex};
 ghost use Rattle.index_inspect.specs.Salvage.{CanBeShared, IsSavedOf, MergesByBitmaps, MergesOrSorts, Saves};
-ghost use Rattle.index_inspect.specs.SalvageSteps.{Completes, IsAbove, StaysIndex};
+ghost use Rattle.index_inspect.specs.SalvageSteps.{Completes, IsAbove, Joins, LeavesFirsts, StayPlaced, StaysIndex};
 
 use crate::remains::{FirstFault, Remains, marked};
 use gix_index::decode::entry::EntrySlice;
@@ -68,10 +67,9 @@ struct Completed {
 fn joined(alloc: Global, link: Link, mut own: State, shared: State) -> Result<Completed, AllocError>
     requires named { is_null (id_bytes link.shared_index_checksum) ≡ false }
     requires shared { CanBeShared own shared }
-    ensures completed { IfOk result (λ c. (found : Bool)
-        → Completes (Some (link_of link)) found (Some (contents shared)) own c) }
-    ensures memory { IfErr result
-        (λ _. MergesByBitmaps (Some (link_of link)) (Some (contents shared))) }
+    ensures completed { IfOk result (Joins (link_of link) (contents shared) own) }
+    ensures memory { OnErr result
+        (MergesByBitmaps (Some (link_of link)) (Some (contents shared))) }
 {
     if shared.link().is_some() {
         return Ok(Completed {
@@ -107,8 +105,8 @@ fn with_shared(
     requires { IfSome shared (CanBeShared own) }
     ensures completed { IfOk result
         (Completes (option_map link_of link) has_link (option_map contents shared) own) }
-    ensures memory { IfErr result
-        (λ _. MergesByBitmaps (option_map link_of link) (option_map contents shared)) }
+    ensures memory { OnErr result
+        (MergesByBitmaps (option_map link_of link) (option_map contents shared)) }
 {
     let Some(link) = link else {
         let shared = if has_link {
@@ -151,11 +149,8 @@ fn is_above(entries: &EntrySlice<'_>, kept: usize, place: usize) -> bool
 /// Drops, of entries in order, those that have no path, and keeps of each path and stage the first. Each that has a path
 /// and stands above the last of those that are kept comes behind it; no entry behind its place moves.
 fn keep_firsts(entries: &mut Vec<Entry>, storage: &[u8])
-    ensures placed { All (IsPlaced (length storage.now)) entries.old.items
-        → All (IsPlaced (length storage.now)) entries.new.items }
-    ensures saved { IsOrdered (records_in storage.now entries.old.items)
-        → IsSavedOf (records_in storage.now entries.old.items)
-        (records_in storage.now entries.new.items) }
+    ensures placed { StayPlaced storage.now entries.old.items entries.new.items }
+    ensures saved { LeavesFirsts storage.now entries.old.items entries.new.items }
 {
     let mut kept = 0;
     for place in 0..entries.len() {

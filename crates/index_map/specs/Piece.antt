@@ -21,6 +21,10 @@ laid place [] = []
 laid place (p ∷ pieces) = record { offset = place; len = length p.bytes; what = p.what }
     ∷ laid (place + length p.bytes) pieces
 
+-- a part from a place on came behind others: the piece, or none, of whichever bytes, so many
+abbrev pub Lays : (List ℕ → List Piece) → ℕ → ℕ → List Part → List Part → Type 0
+Lays pieces place len old new = (bytes : List ℕ) → length bytes ≡ len → new ≡ old ++ laid place (pieces bytes)
+
 -- parts lie side by side, from a place to an end
 abbrev pub LieBetween : ℕ → List Part → ℕ → Type 0
 LieBetween place [] end = place ≡ end

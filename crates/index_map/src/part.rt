@@ -1,7 +1,7 @@
 //! A part of a file.
 
 ghost use Rattle.std.specs.Prelude.{◌≡◌, ◌+◌, ◌++◌, [], ◌∷◌, ℕ, List, OnOk, length};
-ghost use Rattle.index_map.specs.Piece.{laid, one_piece, some_piece};
+ghost use Rattle.index_map.specs.Piece.{Lays, laid, one_piece, some_piece};
 
 use index_extensions::Signature;
 use std::alloc::AllocError;
@@ -54,8 +54,8 @@ pub fn push_part(
     len: usize,
     what: What,
 ) -> Result<(), AllocError>
-    ensures { OnOk result ((bytes : List ℕ) → length bytes ≡ len
-        → parts.new.items ≡ parts.old.items ++ laid offset (one_piece what bytes)) }
+    ensures { OnOk result
+        (Lays (one_piece what) offset len parts.old.items parts.new.items) }
 {
     parts.push(Part { offset, len, what })?;
     Ok(())
@@ -68,8 +68,8 @@ pub fn push_some(
     len: usize,
     what: What,
 ) -> Result<(), AllocError>
-    ensures { OnOk result ((bytes : List ℕ) → length bytes ≡ len
-        → parts.new.items ≡ parts.old.items ++ laid offset (some_piece what bytes)) }
+    ensures { OnOk result
+        (Lays (some_piece what) offset len parts.old.items parts.new.items) }
 {
     if len != 0 {
         parts.push(Part { offset, len, what })?;
