@@ -95,6 +95,16 @@ impl Entry {
         if self.is_placed(backing.len()) {
             return &backing[self.path.start()..self.path.end()];
         }
+        self.cut_path(backing)
+    }
+
+    /// What is there of a path in a storage that ends before it does. (By itself, so that searches jump over it.)
+    #[cold]
+    #[inline(never)]
+    fn cut_path<'a>(&self, backing: PathStorageRef<'a>) -> &'a [u8]
+        requires { IsPlaced (length backing.now) self.now → ⊥ }
+        ensures { result.now ≡ (record_in backing.now self.now).path }
+    {
         &backing[self.path.start().min(backing.len())..]
     }
 

@@ -59,6 +59,7 @@ fn copy_to_end(storage: &mut PathStorage, range: Range<usize>) -> Result<(), All
 
 /// Puts an entry at the end, whose path is these bytes of the storage, and then those of `path`. Room for all is asked
 /// for first, so that after a refusal all is as it was.
+#[inline(always)]
 fn append_after(
     entries: &mut Vec<Entry>,
     storage: &mut PathStorage,
@@ -170,6 +171,7 @@ impl EntryList {
 
     /// Puts an entry at the end, whose path is so many bytes of the path before it, and then these. Room for all is
     /// asked for first, so that after a refusal all is as it was.
+    #[inline(always)]
     pub fn push_after(
         &mut self,
         entry: Pathless,

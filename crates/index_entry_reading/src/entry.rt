@@ -121,6 +121,7 @@ fn flags_of(word: u16, second: u16) -> Flags
 }
 
 /// The entry of these pieces.
+#[inline(always)]
 fn lent_of<'a>(kind: Kind, head: EntryHead<'a>, shared: usize, path: &'a [u8]) -> Lent<'a>
     requires { IsLong kind (lent_head head) }
     ensures shared { result.shared ≡ shared }
@@ -140,6 +141,7 @@ fn lent_of<'a>(kind: Kind, head: EntryHead<'a>, shared: usize, path: &'a [u8]) -
 }
 
 /// The entry of version 2 or 3 at the front, and the bytes behind its padding.
+#[inline(always)]
 fn entry23_of(kind: Kind, bytes: &[u8]) -> Option<(Lent<'_>, &[u8])>
     ensures found { IfSome result (λ x. IsLentEntry23 kind bytes.now x.0 x.1.now) }
     ensures none { IfNone result (HasNoEntry23 kind bytes.now) }
@@ -179,6 +181,7 @@ fn pieces4_of(
 }
 
 /// The entry of version 4 at the front, behind a path of so many bytes or none, and the bytes behind it.
+#[inline(always)]
 fn entry4_of(kind: Kind, room: Option<usize>, bytes: &[u8]) -> Option<(Lent<'_>, &[u8])>
     ensures found { IfSome result (λ x. IsLentEntry4 kind room bytes.now x.0 x.1.now) }
     ensures none { IfNone result (HasNoEntry4 kind room bytes.now) }
@@ -191,6 +194,7 @@ fn entry4_of(kind: Kind, room: Option<usize>, bytes: &[u8]) -> Option<(Lent<'_>,
 
 /// The entry of a version at the front, behind a path of so many bytes or none, and the bytes behind it; None where no
 /// entry stands there. Nothing is copied but the numbers.
+#[inline(always)]
 pub fn entry_of(
     version: Version,
     kind: Kind,

@@ -14,6 +14,7 @@ use json::Writer;
 use std::{mem, str};
 
 /// Appends three pieces, one behind another.
+#[inline(always)]
 fn append_three(text: &mut Vec<u8>, one: &[u8], two: &[u8], three: &[u8]) -> Appended
     ensures { Adds result text.old text.new (one.now ++ two.now ++ three.now) }
 {

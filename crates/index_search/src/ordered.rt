@@ -32,6 +32,7 @@ fn passes(order: Ordering, after: bool) -> bool
 
 /// The first place from `start` up to `end` that isn't before what is looked for or, with `after`, the first behind
 /// it, where the other places are known to stand before and behind; and how many places were asked.
+#[inline(always)]
 pub fn part_within<R: Ordered>(places: &R, after: bool, start: usize, end: usize) -> (usize, usize)
     requires in_order { start ≤ end }
     requires inside { end ≤ length (R.answers places.now) }
