@@ -110,6 +110,7 @@ pub fn end_from<R: Ordered>(places: &R, start: usize) -> usize
 
 /// The first place from `start` up to `end` that is what is looked for or, as an error, the first behind it, where
 /// the other places are known to stand before and behind; and how many places were asked.
+#[inline(always)]
 pub fn search_within<R: Ordered>(
     places: &R,
     start: usize,
