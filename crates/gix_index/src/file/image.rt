@@ -18,11 +18,11 @@ fn put_body<W: Out>(
 ) -> Result<(Version, ObjectId), Error>
     ensures { PutsBodyTo W.Out out.old out.new result (contents state.now) options }
 {
+    let kind = state.object_hash();
     if options.skip_hash {
-        let version = state.write_to(out, options)?;
-        return Ok((version, state.object_hash().null()));
+        return Ok((state.write_to(out, options)?, kind.null()));
     }
-    let mut hashing = Write::new(out, state.object_hash());
+    let mut hashing = Write::new(out, kind);
     let result = state.write_to(&mut hashing, options);
     let Write { inner, hash } = hashing;
     // No effect at run time. The proof reads what `out` holds from this use of `inner`.

@@ -11,20 +11,20 @@ use Rattle.gix_index.proofs.file.image.put_body.Goals as goal
 pub returns : goal.returns
 returns g c =
     let v = contents c.args.state.now in
-    let h = c.in_ok-version-2.ensures.hashed 0 c.object_hash-2.result []
+    let h = c.in_ok-version.ensures.hashed 0 c.object_hash-kind.result []
     (c.new-hashing.ensures.kind, c.new-hashing.ensures.empty) in
     record {
       answer = record {
         version = search rules;
         id = hashed_id v c.args.options _ c.if-options.false (c.finalize.ensures _ h.1
-            ∙ ap (λ (k : Kind). make_id k (digest k (body v c.args.options))) (h.0 ∙ c.object_hash-2.ensures));
+            ∙ ap (λ (k : Kind). make_id k (digest k (body v c.args.options))) (h.0 ∙ c.object_hash-kind.ensures));
         bytes = search rules;
         too_many = search rules;
         nul_in_path = search rules;
         too_large = search rules;
       };
       hashed = λ depth k m held.
-          let grown = c.in_ok-version-2.ensures.hashed (suc depth) k m (rw c.new-hashing.ensures.inner held) in
+          let grown = c.in_ok-version.ensures.hashed (suc depth) k m (rw c.new-hashing.ensures.inner held) in
           search (rules, grown);
       loan = grind (arith, common_steps);
       writable = search rules;
