@@ -38,8 +38,8 @@ pub record Completes (link : Option LinkValue) (found : Bool) (shared : Option C
   pub index : IsPlainIndex own → IsIndexOf (contents own).kind (records c.state) c.state
 
 -- the same with a link that was read and a shared index that is given, whether or not a link was found
-abbrev pub Joins : LinkValue → Contents → State → Completed → Type 0
-Joins link shared own c = (found : Bool) → Completes (Some link) found (Some shared) own c
+abbrev pub CompletesWith : LinkValue → Contents → State → Completed → Type 0
+CompletesWith link shared own c = (found : Bool) → Completes (Some link) found (Some shared) own c
 
 -- where entries are in order, those that are saved of them are left
 abbrev pub LeavesFirsts : List ℕ → List Entry → List Entry → Type 0
@@ -47,8 +47,8 @@ LeavesFirsts storage old new = IsOrdered (records_in storage old)
     → IsSavedOf (records_in storage old) (records_in storage new)
 
 -- where the paths of entries lie in a storage, those of the others do
-abbrev pub StayPlaced : List ℕ → List Entry → List Entry → Type 0
-StayPlaced storage old new = All (IsPlaced (length storage)) old → All (IsPlaced (length storage)) new
+abbrev pub KeepPlaced : List ℕ → List Entry → List Entry → Type 0
+KeepPlaced storage old new = All (IsPlaced (length storage)) old → All (IsPlaced (length storage)) new
 
 -- the record at a place has a path, and stands above the last of the first ones, so many of which are kept
 abbrev pub IsAbove : List Record → ℕ → ℕ → Type 0

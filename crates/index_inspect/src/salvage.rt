@@ -9,7 +9,7 @@ ghost use Rattle.gix_index.specs.State.{contents, records};
 ghost use Rattle.index_inspect.specs.Laws.{AreWhole};
 ghost use Rattle.index_inspect.specs.Remains.{IsPlainIndex};
 ghost use Rattle.index_inspect.specs.Salvage.{CanBeShared, IsSavedOf, MergesByBitmaps, MergesOrSorts, Saves};
-ghost use Rattle.index_inspect.specs.SalvageSteps.{Completes, IsAbove, Joins, LeavesFirsts, StayPlaced, StaysIndex};
+ghost use Rattle.index_inspect.specs.SalvageSteps.{Completes, IsAbove, CompletesWith, LeavesFirsts, KeepPlaced, StaysIndex};
 
 use crate::remains::{FirstFault, Remains, marked};
 use gix_index::decode::entry::EntrySlice;
@@ -67,7 +67,7 @@ struct Completed {
 fn joined(alloc: Global, link: Link, mut own: State, shared: State) -> Result<Completed, AllocError>
     requires named { is_null (id_bytes link.shared_index_checksum) ≡ false }
     requires shared { CanBeShared own shared }
-    ensures completed { IfOk result (Joins (link_of link) (contents shared) own) }
+    ensures completed { IfOk result (CompletesWith (link_of link) (contents shared) own) }
     ensures memory { OnErr result
         (MergesByBitmaps (Some (link_of link)) (Some (contents shared))) }
 {
@@ -149,7 +149,7 @@ fn is_above(entries: &EntrySlice<'_>, kept: usize, place: usize) -> bool
 /// Drops, of entries in order, those that have no path, and keeps of each path and stage the first. Each that has a path
 /// and stands above the last of those that are kept comes behind it; no entry behind its place moves.
 fn keep_firsts(entries: &mut Vec<Entry>, storage: &[u8])
-    ensures placed { StayPlaced storage.now entries.old.items entries.new.items }
+    ensures placed { KeepPlaced storage.now entries.old.items entries.new.items }
     ensures saved { LeavesFirsts storage.now entries.old.items entries.new.items }
 {
     let mut kept = 0;
