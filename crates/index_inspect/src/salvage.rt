@@ -9,7 +9,7 @@ ghost use Rattle.gix_index.specs.State.{contents, records};
 ghost use Rattle.index_inspect.specs.Laws.{AreWhole};
 ghost use Rattle.index_inspect.specs.Remains.{IsPlainIndex};
 ghost use Rattle.index_inspect.specs.Salvage.{CanBeShared, IsSavedOf, MergesByBitmaps, MergesOrSorts, Saves};
-ghost use Rattle.index_inspect.specs.SalvageSteps.{Completes, IsAbove, CompletesWith, LeavesFirsts, KeepPlaced, StaysIndex};
+ghost use Rattle.index_inspect.specs.SalvageSteps.{Completes, CompletesWith, IsAbove, KeepPlaced, LeavesFirsts, StaysIndex};
 
 use crate::remains::{FirstFault, Remains, marked};
 use gix_index::decode::entry::EntrySlice;
