@@ -62,7 +62,6 @@ fn second_of(word: u16, bytes: &[u8]) -> Option<(u16, &[u8])>
     Some((second, rest))
 }
 
-#[inline(always)]
 #[tactic(auto, unfolding(index_entries::specs::EntrySteps::head_at))]
 fn head_of(kind: Kind, bytes: &[u8]) -> Option<(EntryHead<'_>, &[u8])>
     ensures { option_map (λ x. (lent_head x.0, x.1.now)) result ≡ head_at kind bytes.now }
@@ -95,7 +94,6 @@ fn path_of(field: u16, bytes: &[u8]) -> Option<(&[u8], &[u8])>
     read::piece(bytes, field as usize)
 }
 
-#[inline(always)]
 #[tactic(auto, unfolding(index_entries::specs::EntrySteps::entry23_at))]
 fn pieces23_of(kind: Kind, bytes: &[u8]) -> Option<((EntryHead<'_>, &[u8]), &[u8])>
     ensures { option_map lent_pieces23 result ≡ entry23_at kind bytes.now }

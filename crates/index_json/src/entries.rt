@@ -7,7 +7,7 @@ ghost use Rattle.index_text.specs.Prepending.{HasRoom, Prepends};
 ghost use Rattle.index_json.specs.EntryValues.{behind_path, entry_value, stat_value, time_value};
 ghost use Rattle.index_json.specs.Values.{begin_of, separator};
 
-use crate::values::{append_piece, append_separator, append_text};
+use crate::values::{append_piece, append_text};
 use bitflags::Flags as _;
 use index_entries::Entry;
 use index_events::event::Member;
@@ -98,8 +98,11 @@ pub fn append_entry(text: &mut Vec<u8>, place: usize, entry: &Entry, path: &[u8]
     ensures { Adds result text.old text.new
         (separator place ++ entry_value (record_at path.now entry.now)) }
 {
-    append_separator(text, place)?;
-    text.extend_from_slice(b"{")?;
+    if place == 0 {
+        text.extend_from_slice(b"{")?;
+    } else {
+        text.extend_from_slice(b",{")?;
+    }
     append_text(text, Member::First(b"path"), path)?;
     append_behind_path(text, entry)
 }

@@ -96,7 +96,6 @@ fn append_bytes(text: &mut Vec<u8>, bytes: &[u8]) -> Appended
 }
 
 /// Appends a text as a string, or where it isn't UTF-8 the digits of its bytes, under a name that says so.
-#[inline(always)]
 pub fn append_text(text: &mut Vec<u8>, member: Member<'_>, bytes: &[u8]) -> Appended
     ensures { Adds result text.old text.new (text_value (position_of member.entry) bytes.now) }
 {
