@@ -24,6 +24,7 @@ pub trait Printer {
 
 impl Text {
     /// Puts events one after another.
+    #[inline(always)]
     pub fn put_all<P: Printer>(&mut self, events: &[Event<'_>]) -> Appended
         ensures { Tells P.spell result self.old self.new (map told events.now) }
     {

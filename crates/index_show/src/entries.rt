@@ -115,13 +115,29 @@ fn prepend_stat(room: &mut [u8], end: usize, indent: &[u8], stat: Stat) -> usize
 
 /// Appends the lines of a stat.
 #[inline(always)]
-pub fn append_stat(lines: &mut Vec<u8>, indent: &[u8], stat: Stat) -> Appended
+fn append_stat(lines: &mut Vec<u8>, indent: &[u8], stat: Stat) -> Appended
     requires { length indent.now ≤ 6 }
     ensures { Adds result lines.old lines.new (stat_lines indent.now stat) }
 {
     let mut room = [0; STAT_LEN];
     let start = prepend_stat(&mut room, STAT_LEN, indent, stat);
     lines.extend_from_slice(&room[start..])
+}
+
+/// Appends those of a file that a field names. (By itself, so that a printer of events stays small.)
+#[inline(never)]
+pub fn append_file_stat(lines: &mut Vec<u8>, stat: Stat) -> Appended
+    ensures { Adds result lines.old lines.new (stat_lines (codes "    ") stat) }
+{
+    append_stat(lines, b"    ", stat)
+}
+
+/// Appends those of a directory, which stand further in.
+#[inline(never)]
+pub fn append_directory_stat(lines: &mut Vec<u8>, stat: Stat) -> Appended
+    ensures { Adds result lines.old lines.new (stat_lines (codes "      ") stat) }
+{
+    append_stat(lines, b"      ", stat)
 }
 
 /// Appends the line of an entry's number, and that of its path.

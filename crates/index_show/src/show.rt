@@ -4,7 +4,7 @@ ghost use Rattle.index_state.specs.State.{contents};
 ghost use Rattle.index_text.specs.Blocks.{PutsText};
 ghost use Rattle.index_show.specs.Show.{line_text, show_lines};
 
-use crate::entries::{append_entry, append_stat};
+use crate::entries::{append_directory_stat, append_entry, append_file_stat};
 use crate::fields::{append_datum, append_heading, append_text};
 use crate::ranges::append_ranges;
 use index_events::document::write_document;
@@ -34,8 +34,8 @@ impl Printer for Lines {
             Value(indent, words, _, datum) => append_datum(lines, indent, words, datum),
             Bytes(indent, words, _, bytes) => append_text(lines, indent, words, bytes),
             Ranges(indent, words, _, ranges) => append_ranges(lines, indent, words, ranges),
-            FileStat(true, _, stat) => append_stat(lines, b"      ", stat),
-            FileStat(false, _, stat) => append_stat(lines, b"    ", stat),
+            FileStat(true, _, stat) => append_directory_stat(lines, stat),
+            FileStat(false, _, stat) => append_file_stat(lines, stat),
             EntryAt(place, entry, path) => append_entry(lines, place, entry, path),
             Heading(indent, words) => append_heading(lines, indent, words),
             Line(indent, words, datum) => append_datum(lines, indent, words, datum),
