@@ -91,23 +91,22 @@ fn append_directory<P: Printer>(text: &mut Text, place: usize, directory: &Direc
 {
     let check_only = Answer(directory.check_only());
     let exclude = Id(directory.exclude_file_oid());
-    text.put_all::<P>(&[
-        Line(b"  ", b"directory", Number(place as u64)),
-        BeginObject(Element(place)),
-        Bytes(b"    ", b"name", First(b"name"), directory.name()),
-        Line(b"    ", b"check only", check_only),
-        Line(b"    ", b"exclude file", exclude),
-    ])?;
+    let name = Bytes(b"    ", b"name", First(b"name"), directory.name());
+    P::put(text, Line(b"  ", b"directory", Number(place as u64)))?;
+    P::put(text, BeginObject(Element(place)))?;
+    P::put(text, name)?;
+    P::put(text, Line(b"    ", b"check only", check_only))?;
+    P::put(text, Line(b"    ", b"exclude file", exclude))?;
     append_stat::<P>(text, directory.stat())?;
-    text.put_all::<P>(&[
-        Hidden(Next(b"exclude_file_oid"), exclude),
-        Hidden(Next(b"check_only"), check_only),
-        BeginArray(Next(b"untracked_entries")),
-    ])?;
+    P::put(text, Hidden(Next(b"exclude_file_oid"), exclude))?;
+    P::put(text, Hidden(Next(b"check_only"), check_only))?;
+    P::put(text, BeginArray(Next(b"untracked_entries")))?;
     append_names::<P>(text, directory.untracked_entries())?;
-    text.put_all::<P>(&[EndArray, BeginArray(Next(b"sub_directories"))])?;
+    P::put(text, EndArray)?;
+    P::put(text, BeginArray(Next(b"sub_directories")))?;
     append_places::<P>(text, directory.sub_directories())?;
-    text.put_all::<P>(&[EndArray, EndObject])
+    P::put(text, EndArray)?;
+    P::put(text, EndObject)
 }
 
 /// Tells how many directories there are, and what the cache says of itself.
