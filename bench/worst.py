@@ -267,4 +267,5 @@ def words(case, call, tool, times, path):
         names = path.with_name("names")
         names.write_bytes(case.names)
         return [times, "lookup", call, path, names]
-    return [tool, call, "sha1", path, *([path.with_name("out")] if call in WRITING else [])]
+    keep = ["--keep"] if call in ("rewrite", "rewrite4") else []
+    return [tool, call, *keep, "sha1", path, *([path.with_name("out")] if call in WRITING else [])]

@@ -102,8 +102,9 @@ extern "C" {
 #define GIX_INDEX_FAULT_NAME 16u        /* gix_index_update and gix_index_trees alone: a name of the path of the row at
                                          * the place is none that git lets stand in one */
 #define GIX_INDEX_FAULT_UNMERGED 17u    /* gix_index_trees alone: the row at the place is in conflict */
-#define GIX_INDEX_FAULT_BELOW 18u       /* gix_index_trees alone: the path of the row at the place lies below that of
-                                         * another, which is a file's or stands for a whole directory */
+#define GIX_INDEX_FAULT_BELOW 18u       /* gix_index_trees: the path of the row at the place lies below that of another,
+                                         * which is a file's or stands for a whole directory; and gix_index_update: it
+                                         * lies in a directory that the sparse index has as one entry */
 
 /* ---- Tables */
 
@@ -383,7 +384,7 @@ uint32_t gix_index_write_over(const gix_index_row *rows, size_t rows_len, const 
  * resolved; and of what is of its stage and a file where the path needs a directory, or the other way round. A row with
  * GIX_INDEX_REMOVE takes its path out, at each stage and without what is below it, as `git update-index --force-remove`
  * does; of such a row the path alone counts, and is cut where it passes the end of paths. A directory of a sparse index
- * isn't opened: a path in it is staged beside it, which git refuses to read, so that the caller has to look for one.
+ * isn't opened, where git expands it: a row whose path lies in one is refused, also one with GIX_INDEX_REMOVE.
  *
  * What speaks of the entries is kept as git keeps it. The cached tree loses the counts on the way to each path, and the
  * untracked cache what it has of its directories; sides of conflicts that go are recorded, so that `git checkout -m`
@@ -395,9 +396,10 @@ uint32_t gix_index_write_over(const gix_index_row *rows, size_t rows_len, const 
  * so a call with NULL and the length 0 asks for it. REFUSED, of these the first: a fault that gix_index_read_split
  * tells, with of_shared one of shared; ORDER, and the place is the index's first entry that isn't above the one before
  * it; MODE or ROW, and the place is the first row without GIX_INDEX_REMOVE that gix_index_write refuses so, or, of a
- * sparse index, gix_index_write_over; NAME or ROW, and the place is the first row whose change is refused: NAME where
- * a name of its path is empty, or is one that git refuses, as `..` and `.git`; ROW where its id is zeros, where that of
- * a directory has no slash behind it, or where there is no room for its path; COUNT or LENGTH; or ROW with the place 0,
+ * sparse index, gix_index_write_over; NAME or ROW, and the place is the first row whose change is refused by itself:
+ * NAME where a name of its path is empty, or is one that git refuses, as `..` and `.git`; ROW where its id is zeros,
+ * where its mode is GIX_INDEX_DIRECTORY, or where there is no room for its path; BELOW, and the place is the first row
+ * whose path lies in a directory that the index has as one entry; COUNT or LENGTH; or ROW with the place 0,
  * where a path of the shared index has a NUL, which version 4 can't hold. MEMORY: malloc or realloc gave nothing.
  * WRONG_NUMBER: kind is none. With each status but DONE bytes is as it was; with DONE, what lies behind the index is.
  *

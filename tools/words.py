@@ -5,8 +5,8 @@ PROGRAM, VERSION = "index-tool", "0.55.0"
 ABOUT = "List, check, repair and rewrite git's index files"
 STATUS = "The status is 0 where all was done, 1 at a fault of a file or of the output, and 2 at wrong words."
 KINDS = ("sha1", "sha256")
-# A word that may stand behind a command's name, and what it does, for its help and for README.md. `letter` is that of a
-# short option, which has no name.
+# A word that may stand behind a command's name, and what it does, for its help and for README.md. `letter` is that of its
+# short form, where it has one, and `name` that of its long form.
 Option = collections.namedtuple("Option", "name letter help does")
 NUL = Option("", "z", "End each line with a NUL byte in place of a newline", "ends each line with a NUL byte")
 QUOTE = Option("quote", "", "Quote paths with unusual bytes, as git does", "quotes paths with unusual bytes, as git does")
@@ -18,8 +18,32 @@ MISSING = Option(
     "missing-ok", "", "Give each tree its id, also where no object store has it",
     "each directory has them, also where `git write-tree` has still to make its tree",
 )
-# A command: whether it writes, what it does, its line in the help, its options, and whether one that writes takes OUT.
-Command = collections.namedtuple("Command", "name writes does about options has_out", defaults=((), True))
+KEEP = Option(
+    "keep", "", "Keep all extensions that fit, and version 4",
+    "keeps all extensions of FILE that fit, and version 4 where FILE is in that",
+)
+ALL = Option(
+    "all", "", "Keep also what is well formed behind the first entry at fault",
+    "keeps also what is well formed behind the first entry at fault",
+)
+KEEP4 = KEEP._replace(does="keeps all extensions of FILE that fit")
+STRICT = Option(
+    "strict", "", "Check also that git takes each entry: its mode, path and id, and its place",
+    "looks also at mode, path and id of each entry, and for paths beside their directory",
+)
+# Of each command: what lets words be left out.
+AUTO_KIND = Option(
+    "auto", "a", "KIND may be left out: it is then as the file's own digest tells",
+    "lets KIND be left out: it is then as the file's own digest tells",
+)
+AUTO_BOTH = Option(
+    "auto", "a", "KIND may be left out (the file's own digest tells it), and FILE (that of the work tree)",
+    "lets KIND be left out, and FILE in a work tree",
+)
+# A command: whether it writes, what it does, its line in the help, its options, whether one that writes takes OUT, and
+# what its help says below them.
+Command = collections.namedtuple("Command", "name writes does about options has_out end", defaults=((), True, ""))
+UNCHECKED = "Without --strict the modes, paths and ids of entries, and paths beside their directory, aren't looked at."
 LINES = (NUL, QUOTE)
 COMMANDS = (
     Command(
@@ -28,11 +52,11 @@ COMMANDS = (
     ),
     Command(
         "check", False, "prints `ok` where entries are in order, cached tree holds together and digest fits",
-        "Check the order of the entries, the cached tree and the digest",
+        "Check the order of the entries, the cached tree and the digest", (STRICT,), end=UNCHECKED,
     ),
     Command(
         "check-trees", False, "prints `ok` where all that is so, and the cached tree fits the entries too",
-        "Check also that the cached tree fits the entries",
+        "Check also that the cached tree fits the entries", (STRICT,), end=UNCHECKED,
     ),
     Command(
         "map", False, "prints offset, length and name of each part of FILE, up to its first fault",
@@ -46,10 +70,10 @@ COMMANDS = (
         "List the trees that the entries make, as `git write-tree` would", LINES,
     ),
     Command(
-        "rewrite", True, "writes OUT anew: in version 4 if FILE is in that, else 2, or 3 where flags ask for it",
-        "Write the index again",
+        "rewrite", True, "writes OUT anew, with `TREE`, `sdir` and an end marker: in version 2, or 3 where flags ask for it",
+        "Write the index again", (KEEP,),
     ),
-    Command("rewrite4", True, "writes OUT in version 4", "Write the index again in version 4"),
+    Command("rewrite4", True, "writes OUT so in version 4", "Write the index again in version 4", (KEEP4,)),
     Command(
         "rewrite-trees", True, "writes OUT with a cached tree made anew: counts and ids are those that FILE's has too",
         "Write the index with a cached tree made anew", (MISSING,),
@@ -59,25 +83,35 @@ COMMANDS = (
         "Change the index, as `git update-index --index-info` does", (NUL_LINES,), False,
     ),
     Command(
-        "salvage", True, "writes to OUT the entries before the first fault of a damaged FILE, and says how many",
-        "Write what can be saved of a damaged index",
+        "salvage", True, "writes to OUT the entries before the first at fault of a damaged FILE, and says how many",
+        "Write what can be saved of a damaged index", (ALL,),
     ),
 )
 READING = tuple(command.name for command in COMMANDS if not command.writes)
 WRITING = tuple(command.name for command in COMMANDS if command.writes)
 NAMES = {command.name: command for command in COMMANDS}
 HELP = ("help", "Print this help, or that of a command")
-KIND = ("[KIND]", "How ids are made: `sha1` or `sha256` [default: as the file's own digest tells]")
-FILE = ("[FILE]", "The index, or `-` for the standard input [default: that of the work tree]")
+KIND = ("<KIND>", "How ids are made: `sha1` or `sha256`")
+FILE = ("<FILE>", "The index, or `-` for the standard input")
 FILE_TO_WRITE = ("<FILE>", "The index that is read, or `-` for the standard input")
 FILE_TO_CHANGE = ("<FILE>", "The index that is changed")
 OUT = ("<OUT>", "The path that is written to")
 HELP_OPTION, VERSION_OPTION = ("-h, --help", "Print help"), ("-V, --version", "Print version")
 
 
+def auto(command):
+    """The option that lets words of a command be left out."""
+    return AUTO_KIND if command.writes else AUTO_BOTH
+
+
 def spelled(option):
     """An option as it is typed."""
     return f"--{option.name}" if option.name else f"-{option.letter}"
+
+
+def shown(option):
+    """An option as the help shows it, where long forms stand below one another."""
+    return ", ".join(filter(None, (f"-{option.letter}" if option.letter else "", f"--{option.name}" if option.name else "")))
 
 
 def operands(command):
@@ -110,9 +144,11 @@ def help_of(name):
         usage = f"{HELP[1]}\n\nUsage: {PROGRAM} help [COMMAND]\n"
         return usage + section("Arguments", [("[COMMAND]", "The command that it is on")]) + section("Options", [HELP_OPTION])
     command = NAMES[name]
-    words = [*(["[OPTIONS]"] if command.options else []), *(operand for operand, _ in operands(command))]
+    words = ["[OPTIONS]", *(operand for operand, _ in operands(command))]
     usage = f"{command.about}\n\nUsage: {PROGRAM} {name} {' '.join(words)}\n"
-    options = [(f"-{it.letter}" if it.letter else f"    --{it.name}", it.help) for it in command.options]
-    # (to clap each may be left out, as KIND stands before FILE)
+    every = (auto(command), *command.options)
+    options = [(shown(it) if it.letter else f"    --{it.name}", it.help) for it in every]
+    # (to clap each may be left out, as `--auto` lets them)
     arguments = [(f"[{operand[1:-1]}]", does) for operand, does in operands(command)]
-    return usage + section("Arguments", arguments) + section("Options", [*options, HELP_OPTION])
+    end = f"\n{command.end}\n" if command.end else ""
+    return usage + section("Arguments", arguments) + section("Options", [*options, HELP_OPTION]) + end

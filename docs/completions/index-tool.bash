@@ -15,8 +15,8 @@ _index_tool() {
   if [ "$COMP_CWORD" -eq 1 ]; then
     words="list check check-trees map map-svg show show-json trees rewrite rewrite4 rewrite-trees update salvage help --help --version"
   elif [[ $word == -* ]]; then
-    words=--help
-    case ${COMP_WORDS[1]} in list) words+=' -z --quote' ;; map) words+=' -z --quote' ;; trees) words+=' -z --quote' ;; rewrite-trees) words+=' --missing-ok' ;; update) words+=' -z' ;; esac
+    words='--auto --help'
+    case ${COMP_WORDS[1]} in list) words+=' -z --quote' ;; check) words+=' --strict' ;; check-trees) words+=' --strict' ;; map) words+=' -z --quote' ;; trees) words+=' -z --quote' ;; rewrite) words+=' --keep' ;; rewrite4) words+=' --keep' ;; rewrite-trees) words+=' --missing-ok' ;; update) words+=' -z' ;; salvage) words+=' --all' ;; esac
   elif [ "$before" -lt "$last" ]; then
     compopt -o default
   fi

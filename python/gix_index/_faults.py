@@ -73,7 +73,7 @@ _WHY_NO_TREES = {
     "GIX_INDEX_FAULT_MODE": "entry {} can't stand in a tree: its mode is none that git has",
     "GIX_INDEX_FAULT_NAME": "entry {} can't stand in a tree: git lets no such name stand in its path",
     "GIX_INDEX_FAULT_UNMERGED": "entry {} is in conflict",
-    "GIX_INDEX_FAULT_BELOW": "entry {} lies below another entry's path, which is no directory",
+    "GIX_INDEX_FAULT_BELOW": "entry {} lies below another entry's path, which is no directory, or stands whole",
     "GIX_INDEX_FAULT_COUNT": "the index has more entries than the 2147483647 of which trees are made",
 }
 

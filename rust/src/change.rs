@@ -103,8 +103,8 @@ fn put(index: &[u8], shared: &[u8], table: &Index, bytes: &mut [u8]) -> Result<R
 ///
 /// [`Error::Refused`] tells a fault of those bytes; [`Fault::Order`](crate::Fault::Order) of the index's entries;
 /// [`Fault::Row`](crate::Fault::Row), [`Fault::Mode`](crate::Fault::Mode) or [`Fault::Name`](crate::Fault::Name) with
-/// the place of the first change that can't be made. A directory of a sparse index isn't opened: a path in it is staged
-/// beside it, which git refuses to read, so that the caller has to look for one.
+/// the place of the first change that can't be made; and else [`Fault::Below`](crate::Fault::Below) with that of the
+/// first whose path lies in a directory that a sparse index has as one entry.
 pub fn update(index: &[u8], shared: Option<&[u8]>, kind: Kind, changes: &[Change<'_>]) -> Result<Vec<u8>, Error> {
     let (table, shared) = (table_of(kind, changes)?, shared.unwrap_or_default());
     let mut bytes = room(0, most_bytes(&table) + index.len() + shared.len())?;

@@ -47,7 +47,8 @@ pub enum Fault {
     /// so.
     Unmerged(usize),
     /// The path of the entry at this place, counted from 0, lies below that of another entry, which is no directory, or
-    /// in a directory of a sparse index. [`write_trees`](crate::Index::write_trees) alone tells so.
+    /// in a directory of a sparse index. [`write_trees`](crate::Index::write_trees) tells so; and so does
+    /// [`update`](crate::update) of a change whose path lies in a directory of a sparse index.
     Below(usize),
     /// A fault of another number.
     Other(u32),
@@ -166,7 +167,7 @@ impl fmt::Display for Fault {
             Fault::Mode(place) => write!(f, "entry {place} can't be written: its mode is none that git has"),
             Fault::Name(place) => write!(f, "entry {place} can't be staged: git lets no such name stand in its path"),
             Fault::Unmerged(place) => write!(f, "entry {place} is in conflict"),
-            Fault::Below(place) => write!(f, "entry {place} lies below another entry's path, which is no directory"),
+            Fault::Below(place) => write!(f, "entry {place} lies below another entry's path, which is no directory, or stands whole"),
             Fault::Other(number) => write!(f, "fault {number}"),
         }
     }

@@ -1,5 +1,7 @@
 """What `test_change_rows` has to answer: edits, merges, verified trees, writing, and files of a working tree."""
 
+from pathlib import Path
+
 import edits
 import extensions
 import faults
@@ -13,6 +15,7 @@ import trees
 import words
 import worktree
 import writing
+from bytes import digest, kind_of_id
 
 # Which choice of extensions writes a cached tree and an end marker; `kept` keeps all that fits.
 CHOICES = {
@@ -217,6 +220,75 @@ def answer_file_time(row, _):
     return [f"time: {show.time(worktree.file_time(words.time_of(row[0])))}"]
 
 
+def answer_compare_times(row, _):
+    return [f"cmp_file_time: {show.optional(worktree.compared(*map(words.time_of, row)))}"]
+
+
+def answer_tree_mode(row, _):
+    mode = int(row[0], 8)
+    return [f"to_tree_entry_mode: {mode:o}" if mode in worktree.NAMED else "to_tree_entry_mode: none"]
+
+
+def answer_verify_bytes(row, folder):
+    data, checksum = (words.bytes_of(word, folder) for word in row)
+    if len(data) < len(checksum):
+        return ["bytes: fault: too short"]
+    actual = digest(kind_of_id(checksum), data[:len(data) - len(checksum)])
+    return ["bytes: intact" if actual == checksum else f"bytes: fault: {faults.of_digest(actual, checksum)}"]
+
+
+def answer_take_link(row, folder):
+    link = words.state_of(row[1], row[0], folder).link
+    return [f"take_link: {show.optional(link and link.shared.hex())}", "link: none"]
+
+
+def answer_set_version(row, folder):
+    words.state_of(row[1], row[0], folder)
+    return [f"version: {row[2][1:]}"]
+
+
+def file_of(row, folder):
+    """The index that a row of `write-file` writes, and its checksum."""
+    return state.read_file(words.bytes_of(row[1], folder), row[0])
+
+
+def file_written(row, folder):
+    """The version, the checksum and the bytes that such a row writes."""
+    version_4, options = "v4" in row[3:], CHOICES["all"]
+    return writing.image(file_of(row, folder)[0], writing.Options(*options, "null" not in row[3:], version_4))
+
+
+def lines_of_write(answer, found, version, checksum):
+    """What is told of such a row, up to what is verified."""
+    lines = [f"write: {answer}", f"version: {version}", f"checksum: {show.optional(checksum and checksum.hex())}"]
+    return lines + [f"entries: {show.entries(found.entries)}"]
+
+
+def fault_of_write(row, folder):
+    """Why nothing is written, or None. The lock is made before any byte is looked at."""
+    path = Path(folder) / row[2]
+    if not path.parent.is_dir():
+        return f"lock {show.text(f'{row[2]}.lock'.encode())}"
+    try:
+        file_written(row, folder)
+    except writing.NulInPath:
+        return "nul in a path"
+    return f"place {show.text(row[2].encode())}" if path.is_dir() else None
+
+
+def answer_write_file(row, folder):
+    try:
+        found, checksum = file_of(row, folder)
+    except state.Fault as fault:
+        return [f"fault: {faults.of_index(fault)}"]
+    fault = fault_of_write(row, folder)
+    if fault is not None:
+        return lines_of_write(f"fault: {fault}", found, found.version, checksum)
+    version, checksum, _ = file_written(row, folder)
+    lines = lines_of_write("whole", found, version, None if "null" in row[3:] else checksum)
+    return lines + ["verify_integrity: intact"]
+
+
 CALLS = {
     "edits": answer_edits,
     "merge": answer_merge,
@@ -236,4 +308,10 @@ CALLS = {
     "stat": answer_stat,
     "entry-time": answer_entry_time,
     "file-time": answer_file_time,
+    "compare-times": answer_compare_times,
+    "tree-mode": answer_tree_mode,
+    "verify-bytes": answer_verify_bytes,
+    "take-link": answer_take_link,
+    "set-version": answer_set_version,
+    "write-file": answer_write_file,
 }

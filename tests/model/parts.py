@@ -12,9 +12,38 @@ import state
 from bytes import ID_LENGTH, Unreadable, digest, null_id
 
 
+# The modes of entries, but that of a whole directory.
+MODES = (entries.FILE, entries.EXECUTABLE, entries.SYMLINK, entries.SUBMODULE)
+# Names that git lets stand in no path, whatever their case.
+BARRED = (b"", b".", b"..", b".git")
 # What a line of `salvage` ends with.
 MERGED = b"; merged with the shared index"
 MISSING = b"; the entries of the shared index are missing"
+
+
+def is_name(name, is_link):
+    """Whether git lets a name stand in a path."""
+    return name.lower() not in BARRED and not (is_link and name.lower() == b".gitmodules")
+
+
+def is_fit(kind, entry):
+    """Whether git works with an entry. The path of a whole directory has a slash at its end."""
+    path, mode = entry.path, entry.mode
+    if mode == entries.DIRECTORY:
+        if not path.endswith(b"/"):
+            return False
+        path, mode = path[:-1], entries.FILE
+    *above, last = path.split(b"/")
+    named = all(is_name(name, False) for name in above) and is_name(last, mode == entries.SYMLINK)
+    return mode in MODES and entry.id != null_id(kind) and b"\0" not in path and named
+
+
+def at_fault(kind, found):
+    """The place of the first entry that git doesn't work with, or that doesn't stand behind the one before it."""
+    for place, entry in enumerate(found):
+        if not is_fit(kind, entry) or (place and entry.key <= found[place - 1].key):
+            return place
+    return None
 
 
 @dataclass
@@ -53,13 +82,26 @@ class Parts:
         except (files.Unread, state.Fault, merging.MergeFault):
             return self.front, MISSING
 
-    def saved(self, found):
-        """Of these entries those that have a path, of each path and stage the first, in order."""
-        firsts = {}
-        for entry in found:
-            if entry.path:
-                firsts.setdefault(entry.key, entry)
-        return [firsts[key] for key in sorted(firsts)]
+    @property
+    def version(self):
+        """The version of a file that has a header."""
+        return int.from_bytes(self.data[4:8], "big")
+
+    def saved(self, kind, folder, keeps_all=False):
+        """The entries that are kept, with those of the shared index that stands in the folder; how many are told, up to the
+        words of a fault; and what became of the shared index. Kept are those before the first at fault, or all that git
+        works with, in order, of each path and stage the first."""
+        found, told = self.completed(kind, folder)
+        if told == MISSING:
+            found = [entry for entry in found if entry.path]
+        place, firsts = at_fault(kind, found), {}
+        for entry in filter(lambda entry: is_fit(kind, entry), found):
+            firsts.setdefault(entry.key, entry)
+        kept = [firsts[key] for key in sorted(firsts)] if keeps_all else found[:place]
+        counts = b"%d declared, %d read, %d kept" % (self.declared, len(self.front), len(kept))
+        if place is not None:
+            counts += b"; %d before the first entry at fault, %d behind it: " % (place, len(found) - place - 1)
+        return kept, counts, told
 
     def put(self, length, what):
         self.found.append((length, what))

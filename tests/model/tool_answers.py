@@ -78,10 +78,11 @@ def checked(found, name):
     return Answer(out=b"ok\n")
 
 
-def rewritten(is_version_4):
-    """The command that writes the index in version 4, or in the smallest unless it has that version."""
+def rewritten(is_version_4, is_kept=False):
+    """The command that writes the index in version 4, or in the smallest, unless it has that version and is kept."""
     def made(found, _):
-        options = writing.Options(is_version_4=is_version_4 or found.version == 4, is_kept=True)
+        is_four = is_version_4 or is_kept and found.version == 4
+        options = writing.Options(is_version_4=is_four, is_kept=is_kept)
         try:
             return Answer(written=writing.image(found, options)[2])
         except writing.NulInPath:
@@ -118,7 +119,7 @@ def tree_checked(found, name):
 def retreed(found, name):
     """The index with a cached tree made anew, of the counts that its own has too."""
     found.tree = made_trees.kept(made_of(found, found.entries, name), found.tree)
-    return rewritten(False)(found, name)
+    return rewritten(False, True)(found, name)
 
 
 def mapped(data, kind, name):
@@ -154,15 +155,16 @@ def shown_as_json(data, kind, name):
 
 
 def salvaged(kind, name, files):
-    """What is saved of the entries before the first fault, and of a shared index, with a line that tells of them."""
+    """What is saved of the entries before the first at fault, and of a shared index, with a line that tells of them."""
     found = parts.parts_of(files[name], kind)
     if len(found.found) == 1:
         raise Refused(f"{name}: ")
     wanted = state.State(kind)
-    for entry in found.saved(found.completed(kind, files)[0]):
+    kept, counts, _ = found.saved(kind, files)
+    for entry in kept:
         wanted.push(entry)
-    counts = f"{found.declared} declared, {len(found.front)} read, {len(wanted.entries)} kept"
-    return Answer(fault=f"index-tool: {name}: {counts}".encode(), written=writing.image(wanted, writing.Options(is_kept=True))[2])
+    options = writing.Options(is_kept=True, is_version_4=found.version == 4)
+    return Answer(fault=f"index-tool: {name}: ".encode() + counts, written=writing.image(wanted, options)[2])
 
 
 # The commands that look at an index with its shared one, those that look at the bytes of a file, and one that looks at

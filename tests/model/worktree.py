@@ -5,6 +5,9 @@ from entries import DIRECTORY, EXECUTABLE, FILE, SUBMODULE, SYMLINK, Stat
 # What becomes of a mode where the bit for execution alone differs.
 BIT = {FILE: EXECUTABLE, EXECUTABLE: FILE}
 
+# The modes that a tree has too.
+NAMED = (FILE, EXECUTABLE, SYMLINK, SUBMODULE, DIRECTORY)
+
 LOW_BITS = 2 ** 32
 NANOSECONDS = 10 ** 9
 
@@ -86,3 +89,10 @@ def low_time(time):
 def file_time(time):
     """An entry's time as a file's: whole seconds are carried out of the nanoseconds."""
     return time[0] + time[1] // NANOSECONDS, time[1] % NANOSECONDS
+
+
+def compared(time, other):
+    """The sign between an entry's time and a file's; None where the seconds of the file's don't have 32 bits."""
+    if exact_time(other) is None:
+        return None
+    return "=" if time == other else "<" if time < other else ">"

@@ -2,7 +2,6 @@
 
 use crate::clock::{self, Clock};
 use gix_index::entry::FileTime;
-use gix_index::file::System;
 use gix_index::hash::Kind;
 use gix_index::{File, State, decode};
 use std::alloc::Global;
@@ -20,15 +19,7 @@ pub fn open(
     let path = PathBuf::from_str(alloc, path)?;
     let (time, options) = (FileTime::EPOCH, decode::Options::default());
     let begin = clock::now(Some(rt))?;
-    let opened = File::at(
-        &System { rt },
-        alloc,
-        path,
-        Kind::Sha1,
-        skip_hash,
-        time,
-        options,
-    );
+    let opened = File::at(rt, alloc, path, Kind::Sha1, skip_hash, time, options);
     let nanoseconds = clock::since(Some(rt), begin)?;
     match opened {
         Ok(file) => Ok((nanoseconds, file.entries().len())),

@@ -8,11 +8,17 @@ use Rattle.index_format.specs.declared.error.Error.{Error as Decoding}
 use Rattle.index_format.specs.declared.error.Error.TheVariants as decoding
 use Rattle.index_format.specs.declared.error.Extension.TheVariants as extensions
 use Rattle.index_split.specs.declared.link.decode.Error.TheVariants as links
-use Rattle.index_format.specs.Answer.{Answer, Verify, IsAnswer}
+use Rattle.index_entries.specs.Header.{header_of}
+use Rattle.index_format.specs.Answer.{Answer, Header, Verify, IsAnswer}
 use Rattle.index_format.specs.DecodeErrors.{SaysFault}
-use Rattle.gix_index.specs.Checked.{digest_fault, IsFileAnswer, SaysFile}
+use Rattle.index_format.specs.HeaderErrors.{header_fault}
+use Rattle.index_format.specs.declared.error.Header.{Header as HeaderError}
+use Rattle.gix_index.specs.Checked.{IsFileAnswer, SaysFile}
 use Rattle.index_file_faults.specs.ReadErrors.{error_of}
-use Rattle.index_window.specs.Intact.{needs_check, digest_id, trailer_id, IsIntact, IsBroken}
+use Rattle.index_file_faults.specs.declared.init.Error.TheVariants as errors
+use Rattle.index_window.specs.ReadWhole.{IsRefusal}
+use Rattle.index_window.specs.ReadWhole as whole
+use Rattle.index_window.specs.Intact.{needs_check, digest_fault, digest_id, trailer_id, IsIntact, IsBroken}
 
 to_by : (t : Bool) (E : Type 0) (P N : Type 0) → MatchBool t E (Unit {0}) → P → MatchBool t ((E × P) ⊎ N) P
 to_by true E P N e p = inl (e, p)
@@ -83,3 +89,14 @@ pub broken_says : (skip : Bool) (kind : Kind) (time : FileTime) (options : Optio
 broken_says skip kind time options bytes e is h =
     subst (λ (d : Decoding). SaysFile (Err (error_of d)) (IsFileAnswer skip kind time options bytes)) (sym is)
     (broken_file skip kind time options bytes h)
+
+-- bytes whose header has a fault
+pub refused_says : (skip : Bool) (kind : Kind) (time : FileTime) (options : Options) (bytes : List ℕ) (fault : HeaderError)
+    (e : Decoding) → header_of kind bytes ≡ Err (header_fault fault) → IsRefusal skip kind bytes fault e
+    → SaysFile (Err (errors.Decode e)) (IsFileAnswer skip kind time options bytes)
+refused_says skip kind time options bytes fault e header (whole.broken h is) =
+    subst (λ (d : Decoding). SaysFile (Err (errors.Decode d)) (IsFileAnswer skip kind time options bytes)) (sym is)
+    (broken_file skip kind time options bytes h)
+refused_says skip kind time options bytes fault e header (whole.intact h is) =
+    subst (λ (d : Decoding). SaysFile (Err (errors.Decode d)) (IsFileAnswer skip kind time options bytes)) (sym is)
+    (to_file skip kind time options bytes (Err (Header (header_fault fault))) h (rw header refl))

@@ -41,8 +41,7 @@ read_kind skip kind time options bytes v c h =
     (value_is kind time options bytes v c (answer_read skip kind time options bytes v c h)).is
 
 pub unlinked_storable : (v : Contents) → IsStorable v → IsStorable (without_link v)
-unlinked_storable v h =
-    record { ids = h.ids; paths = h.paths; fits = h.fits; tree = h.tree; resolve_undo = h.resolve_undo }
+unlinked_storable v h = record { ids = h.ids; paths = h.paths; fits = h.fits; tree = h.tree }
 
 still_unlinked : (b : Option BitmapPair) (shared old new : Contents) → old.extensions.link ≡ None
     → MergesBy b shared old new → new.extensions.link ≡ None

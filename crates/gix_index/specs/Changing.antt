@@ -3,6 +3,7 @@ pub use Rattle.index_updates.specs.Updates
 pub use Rattle.index_edits.specs.Changes
 pub use Rattle.index_edits.specs.Edits as Staging
 pub use Rattle.index_edits.specs.Refusals
+pub use Rattle.index_edits.specs.Wholes
 pub use Rattle.index_invalidation.specs.Invalidation
 pub use Rattle.index_monitor.specs.Dirty
 pub use Rattle.index_updates.specs.Invalidated

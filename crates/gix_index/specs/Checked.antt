@@ -4,7 +4,6 @@ use Rattle.std.specs.Prelude.{◌≡◌, ◌≢◌, ℕ, ◌⊎◌, Bool, List, 
 use Rattle.index_parts.specs.declared.hash.Kind.{Kind}
 use Rattle.index_metadata.specs.declared.entry.stat.FileTime.{FileTime}
 use Rattle.index_format.specs.declared.decode.Options.{Options}
-use Rattle.index_format.specs.declared.error.Error.{Error as Decoding}
 use Rattle.index_format.specs.declared.error.Error.TheVariants as decoding
 use Rattle.index_format.specs.Answer.{Answer, Fault, Verify, IsAnswer}
 use Rattle.index_format.specs.DecodeErrors.{IsEarly, SaysFault}
@@ -14,10 +13,6 @@ use Rattle.gix_index.specs.declared.file.File.{File}
 use Rattle.index_file_faults.specs.declared.init.Error.{Error}
 use Rattle.index_file_faults.specs.declared.init.Error.TheVariants as errors
 use Rattle.gix_index.specs.File.{state_of, checksum_of}
-
--- the error of a digest that isn't the trailer
-abbrev pub digest_fault : Kind → List ℕ → Decoding
-digest_fault kind bytes = decoding.Verify (digest_id kind bytes) (trailer_id kind bytes)
 
 -- the answer of the bytes where they are intact, else the digest and the trailer
 abbrev pub IsFileAnswer : Bool → Kind → FileTime → Options → List ℕ → Answer → Type 0

@@ -10,6 +10,7 @@ pub mod InPlace
 pub mod Keeping
 pub mod Linked
 pub mod OnDisk
+pub mod OnSystem
 pub mod Outlined
 pub mod ReadFile
 pub mod Searching

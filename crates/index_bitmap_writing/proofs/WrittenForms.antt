@@ -22,7 +22,7 @@ use Rattle.index_bitmap_writing.proofs.WrittenBitmaps.{bitmap_parts}
 pub stopped_behind : {S T E U V F : Type 0} {w : Ghosts S} {a b c : S} {x : V} {e : F} (r : Result T E)
     {xs ys all : List ℕ} (rest : List ℕ) → IsErr r → (xs ++ ys) ++ rest ≡ all
     → Puts {T = V} {E = F} w a b (Ok x) xs → Puts {T = U} {E = F} w b c (Err e) ys → Puts w a c r all
-stopped_behind r rest h whole p q = puts_stopped_after r rest h whole p.takes p.failed p.loan q
+stopped_behind r rest h whole p q = puts_stopped_after r rest h whole p.takes p.loan q
 
 -- ---- literal words
 

@@ -10,21 +10,21 @@ use Rattle.index_cached_tree.specs.declared.write.Error.TheVariants as errors
 -- a failed writer took a prefix of the bytes; at a refusal it is as it was
 abbrev pub TreeFails : {S : Type 0} → (S → Option (List ℕ)) → (S → Bool) → S → S → Error → List ℕ → Type 0
 TreeFails taken failed old new (errors.Io e) bytes =
-    AppendsPrefix (taken old) (taken new) bytes × (failed old ≡ false → failed new ≡ true)
+    AppendsPrefix (taken old) (taken new) bytes × (failed new ≡ true)
 TreeFails taken failed old new errors.TooLarge bytes = new ≡ old
 
--- an Ok took the bytes whole, and a writer that hadn't failed has not failed
+-- an Ok took the bytes whole, and the writer has failed where it had before
 abbrev pub WritesTree : {S T : Type 0} → (S → Option (List ℕ)) → (S → ℕ → Kind → List ℕ → Type 0) → (S → Bool) → S → S
     → Result T Error → List ℕ → Type 0
 WritesTree taken hashed failed old new r bytes =
-    MatchResult r (λ _. Took taken hashed old new bytes × (failed old ≡ false → failed new ≡ false))
+    MatchResult r (λ _. Took taken hashed old new bytes × (failed new ≡ failed old))
     (λ e. TreeFails taken failed old new e bytes)
 
--- the answer that the writer failed
-abbrev pub IsIo : {T : Type 0} → Result T Error → Type 0
-IsIo (Ok x) = ⊥
-IsIo (Err (errors.Io e)) = Unit {0}
-IsIo (Err errors.TooLarge) = ⊥
+-- whether the answer is that the writer failed
+abbrev pub is_io : {T : Type 0} → Result T Error → Bool
+is_io (Ok x) = false
+is_io (Err (errors.Io e)) = true
+is_io (Err errors.TooLarge) = false
 
 -- the number where it has at most 32 bits
 abbrev pub within_32 : ℕ → Option ℕ

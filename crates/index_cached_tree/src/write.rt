@@ -1,7 +1,7 @@
 //! Writing a cached tree as an extension.
 
 ghost use Rattle.std.specs.Prelude.{◌≡◌, ◌↔◌, ◌≤◌, ◌<◌, ◌^◌, ◌+◌, ◌++◌, ℕ, List, length, take, map, true, false};
-ghost use Rattle.std.specs.Prelude.{is_err};
+ghost use Rattle.std.specs.Prelude.{is_err, ◌||◌};
 ghost use Rattle.std.specs.List.{flat_map};
 ghost use Rattle.index_parts.specs.Puts.{Puts};
 ghost use Rattle.index_extensions.specs.Encoding.{item_bytes};
@@ -9,7 +9,7 @@ ghost use Rattle.index_parts.specs.Numbers.{be32};
 ghost use Rattle.index_cached_tree.specs.TreeImage.{tree_item};
 ghost use Rattle.index_cached_tree.specs.Tree.{node_of};
 ghost use Rattle.index_cached_tree.specs.TreeImage.{count_bytes, id_part, behind_name, node_head_bytes, node_bytes};
-ghost use Rattle.index_cached_tree.specs.TreeWriting.{WritesTree, IsIo, within_32, room_left};
+ghost use Rattle.index_cached_tree.specs.TreeWriting.{WritesTree, is_io, within_32, room_left};
 ghost use Rattle.index_cached_tree.specs.declared.write.Error.TheVariants.{Io};
 ghost use Rattle.index_cached_tree.specs.declared.Tree.TheViews.{out-Tree};
 
@@ -213,7 +213,7 @@ impl Tree {
         ensures bytes { WritesTree W.taken W.hashed W.failed out.old out.new result
             (item_bytes (tree_item (node_of self.now))) }
         ensures loan { W.loan out.new ≡ W.loan out.old }
-        ensures io { W.failed out.old ≡ false → (IsIo result ↔ (W.failed out.new ≡ true)) }
+        ensures io { W.failed out.new ≡ (is_io result || W.failed out.old) }
         ensures too_large { (result ≡ Err Error.TooLarge)
             ↔ (2 ^ 32 ≤ length (node_bytes (node_of self.now))) }
     {

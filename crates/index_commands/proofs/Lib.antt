@@ -1,3 +1,4 @@
 mod Endings
+mod Timed
 mod Trailers
 mod Updated

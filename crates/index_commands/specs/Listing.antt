@@ -1,27 +1,43 @@
 -- Which lines the program prints of an index in a file (the program's own).
-use Rattle.std.specs.Prelude.{◌≡◌, ℕ, List, Option, Result}
+use Rattle.std.specs.Prelude.{◌≡◌, ◌⊎◌, ℕ, Bool, List, Option, Result}
 use Rattle.gix_index.specs.Disk.{Disk, disk_at}
+use Rattle.gix_index.specs.Disk.World.{World}
 use Rattle.gix_index.specs.Hashing.Out.{Ghosts as Output}
 use Rattle.gix_index.specs.Kind.{Kind}
 use Rattle.gix_index.specs.ObjectId.{ObjectId}
 use Rattle.gix_index.specs.Contents.{Contents}
 use Rattle.index_lines.specs.Line.{listing}
 use Rattle.index_text.specs.declared.lines.Lines.{Lines}
-use Rattle.index_failures.specs.Calls.{FailsToRead}
 use Rattle.gix_index.specs.OnDisk.FolderTrait.{Ghosts as Folder}
 use Rattle.index_failures.specs.declared.failure.Failure.{Failure}
-use Rattle.index_failures.specs.Reading.{IsInFile}
+use Rattle.index_failures.specs.Nuls.{AreShown, IsOfNul}
+use Rattle.index_failures.specs.Reading.{FailsReading, IsInFile, SaysOfIndex}
 use Rattle.index_failures.specs.Telling.{EndsTelling, NoText}
 
--- the lines of the index in a file, in a style
+-- the lines of the index in a file, in a style that shows its paths
 pub record IsListing (style : Lines) (disk : Disk) (kind : Kind) (text : List ℕ) : Type 0 where
   pub value : Contents
   pub checksum : Option ObjectId
   pub read : IsInFile disk kind value checksum
+  pub shown : AreShown style value.records
   pub is : text ≡ listing style value.records
+
+-- a failure of an index in a file of which the style doesn't show a path
+pub record IsOfNulIn (style : Lines) (disk : Disk) (kind : Kind) (path : List ℕ) (failure : Failure) : Type 0 where
+  pub value : Contents
+  pub checksum : Option ObjectId
+  pub read : IsInFile disk kind value checksum
+  pub is : IsOfNul style value.records path failure
+
+-- it can't be read, or not shown so
+abbrev pub FailsToList : Lines → Bool → World → Kind → List ℕ → Failure → Type 0
+FailsToList style works world kind path failure =
+    FailsReading (SaysOfIndex works world kind path) path failure
+    ⊎ IsOfNulIn style (disk_at world path) kind path failure
 
 -- they are told of the index in the file at a path of a folder, or why they aren't
 abbrev pub ListsIndex : {S F M T : Type 0} → Lines → Folder S F M → S → Kind → List ℕ → Output T → T → T
     → Result (Unit {0}) Failure → Type 0
 ListsIndex style folder now kind path writer old new answer = EndsTelling writer old new
-    (IsListing style (disk_at (folder.known now) path) kind) NoText (FailsToRead folder now kind path) path answer
+    (IsListing style (disk_at (folder.known now) path) kind) NoText
+    (FailsToList style (folder.works now) (folder.known now) kind path) path answer

@@ -3,8 +3,6 @@ use Rattle.std.specs.Prelude.{ℕ, Bool, List, Result}
 use Rattle.gix_index.specs.Disk.{disk_at}
 use Rattle.gix_index.specs.Kind.{Kind}
 use Rattle.gix_index.specs.Version.{Version}
-use Rattle.gix_index.specs.Version.TheVariants as versions
-use Rattle.gix_index.specs.VersionChoice.{VersionChoice}
 use Rattle.gix_index.specs.VersionChoice.TheVariants.{Smallest, V4}
 use Rattle.gix_index.specs.State.{contents}
 use Rattle.gix_index.specs.File.{state_of, checksum_of}
@@ -16,21 +14,22 @@ use Rattle.index_commands.specs.declared.rewrite.Form.TheVariants as forms
 use Rattle.gix_index.specs.OnDisk.FolderTrait.{Ghosts as Folder}
 use Rattle.index_failures.specs.declared.failure.Failure.{Failure}
 use Rattle.index_failures.specs.Reading.{FailsReading, IsInFileSince, SaysOfIndex}
-use Rattle.index_failures.specs.Options.{rewrite_options}
+use Rattle.index_failures.specs.Options.{default_options, kept_options, options_as_read}
 use Rattle.index_failures.specs.Storing.{EndsStoring, FailsStoring, IsReplaced}
 
--- the version that a form has for an index of a version
-abbrev pub chosen : Form → Version → VersionChoice
-chosen forms.V4 version = V4
-chosen forms.AsRead versions.V4 = V4
-chosen forms.AsRead versions.V2 = Smallest
-chosen forms.AsRead versions.V3 = Smallest
+-- The options that a form has for an index of a version: the default ones; or with all extensions that fit, in version 4
+-- where the index has it.
+abbrev pub chosen : Form → Version → Options
+chosen forms.Smallest version = default_options Smallest
+chosen forms.V4 version = default_options V4
+chosen forms.AsRead version = options_as_read version
+chosen forms.AsReadV4 version = kept_options V4
 
--- the same as options, for an index of that version
+-- the same for an index of that version
 abbrev pub chosen_options : Form → File → Options
-chosen_options form index = rewrite_options (chosen form (contents (state_of index)).version)
+chosen_options form index = chosen form (contents (state_of index)).version
 
--- the index in a file was read under the lock of the file that is written, and was written there in the version of a form
+-- the index in a file was read under the lock of the file that is written, and was written there by the options of a form
 abbrev pub Rewrites : Bool → Bool → Form → Kind → World → World → List ℕ → List ℕ → Type 0
 Rewrites alone guards form kind old new path to = IsReplaced alone guards old new to
     (λ world index. IsInFileSince (disk_at world path) kind (contents (state_of index)) (checksum_of index))

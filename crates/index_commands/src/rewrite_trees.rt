@@ -71,8 +71,8 @@ pub fn rewrite_trees<'a, D: Folder>(
     let lock = lock_at(folder, alloc, to)?;
     match made(folder, alloc, counts, kind, path) {
         Ok(index) => {
-            let version = choice(Form::AsRead, index.version());
-            commit_at(folder, alloc, index, lock, version, to)
+            let options = choice(Form::AsRead, index.version());
+            commit_at(folder, alloc, index, lock, options, to)
         }
         Err(failure) => {
             lock.release(folder);

@@ -1,11 +1,11 @@
 //! The command `update`.
 
 ghost use Rattle.gix_index.specs.Order.{IsStrictlyOrdered};
-ghost use Rattle.gix_index.specs.State.{contents};
-ghost use Rattle.index_commands.specs.Updating.{BeginsIndex, ChangesState, GivesUpdated, UpdatesIndex};
+ghost use Rattle.gix_index.specs.State.{PathsInStorage, contents};
+ghost use Rattle.index_commands.specs.Updating.{BeginsIndex, ChangesState, GivesUpdated, IsTimed, UpdatesIndex};
 
 use crate::rewrite::{Form, choice};
-use gix_index::change::ApplyError;
+use gix_index::change::{ApplyError, Change};
 use gix_index::entry::FileTime;
 use gix_index::file::folder::Folder;
 use gix_index::hash::Kind;
@@ -41,7 +41,20 @@ fn begun_at<'a, D: Folder>(
     }
 }
 
-/// Makes the changes that a text says of an index, all or none.
+/// Where there is a change, marks each entry that an index of the time before leaves in doubt, and takes that time off:
+/// the file that is written has the time of its writing.
+fn renew(changes: &[Change<'_>], state: &mut State)
+    ensures timed { IsTimed changes.now (contents state.old) (contents state.new) }
+    ensures placed { PathsInStorage state.old → PathsInStorage state.new }
+{
+    if changes.is_empty() {
+        return;
+    }
+    state.smudge_racy(state.timestamp());
+    state.set_timestamp(FileTime::EPOCH);
+}
+
+/// Makes the changes that a text says of an index, all or none. With one, the index is written anew.
 fn change<'a>(
     alloc: Global,
     nul: bool,
@@ -62,7 +75,10 @@ fn change<'a>(
         return Err(Failure::Lines { path: from, fault });
     };
     match state.apply(&PathNames, &changes) {
-        Ok(()) => Ok(()),
+        Ok(()) => {
+            renew(&changes, state);
+            Ok(())
+        }
         Err(ApplyError::Refused { at, cause }) => Err(Failure::Change {
             path: from,
             at,
@@ -100,9 +116,12 @@ fn updated<'a, D: Folder>(
 ///
 /// The text is what [`read`] reads, and the changes are made as `State::apply` makes them, with the names that git lets
 /// stand in a path. The file at `to`, which is that at `path`, is locked, as git locks an index, before the index is
-/// read; where there is none, an index is begun. What is written gets the time at which the index was changed last, so
-/// that each file which git would have looked at, it still looks at; and else what [`commit_at`] says. Nothing is
-/// written before all changes are made.
+/// read; where there is none, an index is begun. Nothing is written before all changes are made, and then as
+/// [`commit_at`] says.
+///
+/// Where the text says a change, the file has the time of its writing, so that readers which go by a file's time see
+/// it. Each entry that git would have looked at beside the time before has size 0 in its stat then: git still looks at
+/// its file. Without a change the file keeps its time.
 ///
 /// [`Failure::Lines`], [`Failure::Change`]: a line of the text is wrong, or its change is refused. [`Failure::Read`]
 /// names the file that can't be read. [`Failure::Entries`]: the entries of the index don't strictly increase. After a
@@ -121,8 +140,8 @@ pub fn update<'a, D: Folder>(
     let lock = lock_at(folder, alloc, to)?;
     match updated(folder, alloc, nul, kind, from, path) {
         Ok(index) => {
-            let version = choice(Form::AsRead, index.version());
-            commit_at(folder, alloc, index, lock, version, to)
+            let options = choice(Form::AsRead, index.version());
+            commit_at(folder, alloc, index, lock, options, to)
         }
         Err(failure) => {
             lock.release(folder);

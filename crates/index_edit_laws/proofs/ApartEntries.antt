@@ -1,36 +1,43 @@
 -- Entries of which none is a file where another needs a folder stay so behind changes, and nothing comes to lie in a
--- whole directory.
+-- whole directory, where no change is of a path in one.
 use Rattle.std.proofs.Common.{◌≡◌, ◌⊎◌, inl, inr, ℕ, ◌==◌, List, [], ◌∷◌, ◌++◌, Bool, true, false}
 use Rattle.std.proofs.Common.{◌||◌, length, take, Option, Some, None, refl, sym, ap, subst, ◌∙◌, append_assoc}
-use Rattle.std.proofs.Common.{nat_eq, arith}
+use Rattle.std.proofs.Common.{get_or, nat_eq, arith}
 use Rattle.std.specs.Prelude.{if◌then◌else◌}
-use Rattle.std.specs.List.{Contains, filter_map, starts_with}
+use Rattle.std.specs.List.{Contains, starts_with}
 use Rattle.std.specs.Option.{option_map}
 use Rattle.std.proofs.lemmas.Bool.{eq-eqb}
 use Rattle.std.proofs.lemmas.List.{length-append}
 use Rattle.std.proofs.lemmas.List.Elements.{All-contains, All-contains_itself}
-use Rattle.std.proofs.lemmas.List.Elements.{Contains-append_cases, Contains-append_left, Contains-append_right}
+use Rattle.std.proofs.lemmas.List.Folds.{list_any_none}
 use Rattle.std.proofs.lemmas.Option.{same_Some}
 use Rattle.std.proofs.Math.Seq.{take-append_seam}
-use Rattle.index_objects.specs.Mode.{named_kind}
+use Rattle.index_parts.specs.declared.hash.Kind.{Kind}
+use Rattle.index_objects.specs.Mode.{directory_mode, named_kind}
 use Rattle.index_objects.specs.declared.object.tree.EntryKind.{EntryKind}
+use Rattle.index_objects.specs.declared.object.tree.EntryKind.TheVariants as kinds
 use Rattle.index_entries.specs.EntryImage.{is_removed}
 use Rattle.index_entries.specs.Order.{record_stage}
 use Rattle.index_entries.specs.Record.{Record, with_path}
 use Rattle.index_lookups.specs.Closest.{is_below}
 use Rattle.index_lookups.proofs.Pairs.{contains_head, contains_tail}
-use Rattle.index_lookups.proofs.TableMade.{and_to, or_left, or_right, same_to}
-use Rattle.index_edits.specs.Changes.{applied_one, takes_out}
+use Rattle.index_lookups.proofs.TableMade.{and_both, and_to, or_left, or_right, same_to}
+use Rattle.index_edits.specs.Changes.{applied_one, path_of, takes_out}
+use Rattle.index_edits.specs.Refusals.{Check}
+use Rattle.index_edits.specs.Wholes.{goes_on, is_around, lies_in_whole}
+use Rattle.index_edits.proofs.Arounds.{goes_behind}
 use Rattle.index_edits.specs.Edits.{are_at_odds, is_displaced, is_succeeded}
 use Rattle.index_edits.specs.declared.change.Change.{Change}
 use Rattle.index_edits.specs.declared.change.Change.TheVariants as changes
 use Rattle.index_edits.proofs.Members.{contains_cases}
-use Rattle.index_edits.proofs.Swaps.{CameFrom, IsNew, came_from}
-use Rattle.index_tree_writer.specs.Refusals.{IsBelow, LieApart}
+use Rattle.index_edits.proofs.Swaps.{CameFrom, IsNew, came_from, new_path}
+use Rattle.index_tree_writer.specs.Refusals.{AreFit, BeginsWith, IsBelow, IsFit, IsInside, LieApart}
 use Rattle.index_tree_writer.specs.Staged.{Staged, is_intended, is_unmerged, merged_in, staged_entry, staged_in}
 use Rattle.index_tree_writer.proofs.Checked.{staged_each}
 use Rattle.index_edit_laws.proofs.FitEntries.{merged_of, merged_parts, merged_stage}
-use Rattle.index_edit_laws.specs.Faultless.{AreOutside, staged_by, with_staged}
+use Rattle.index_edit_laws.proofs.WholeDirectories.{false_from, not_around, slash_end, whole_kind, whole_mode}
+use Rattle.index_edit_laws.proofs.WholeDirectories.{whole_new}
+use Rattle.index_edit_laws.specs.Faultless.{StagesFaultless}
 
 -- ---- what a record stages
 
@@ -160,50 +167,67 @@ module _ (rs : List Record) where
 
 -- ---- whole directories
 
-head_staged : (c : Change) (cs : List Change) (r : Record) → IsNew c r → Contains (filter_map staged_by (c ∷ cs)) r
-head_staged (changes.Stage entry path) cs r e =
-    let new = with_path path.now entry in
-    subst (Contains (new ∷ filter_map staged_by cs)) (sym e) (contains_head new (filter_map staged_by cs))
-head_staged (changes.Unstage path) cs r e = absurd e
+module _ (check pass : Check) (kind : Kind) (c : Change) (rs : List Record) (f : StagesFaultless check kind c) where
+  abbrev now : List Record
+  now = applied_one c rs
 
-tail_staged : (c : Change) (cs : List Change) (r : Record) → Contains (filter_map staged_by cs) r
-    → Contains (filter_map staged_by (c ∷ cs)) r
-tail_staged (changes.Stage entry path) cs r h =
-    contains_tail (with_path path.now entry) (filter_map staged_by cs) r h
-tail_staged (changes.Unstage path) cs r h = h
-
-module _ (c : Change) (cs : List Change) (rs : List Record) where
-  earlier : (r : Record) → Contains (with_staged cs (applied_one c rs)) r → Contains (with_staged (c ∷ cs) rs) r
-  earlier r h = by (Contains-append_cases (applied_one c rs) (filter_map staged_by cs) r h)
+  -- where no whole directory has the path in it, none has after the change
+  pub outside_then : (path : List ℕ) → lies_in_whole path rs ≡ false → lies_in_whole path now ≡ false
+  outside_then path out = list_any_none (is_around path) now (λ i d within.
+      let r = get_or now i d in
+      false_from (is_around path r) (λ t.
+      let whole = and_both (r.mode == directory_mode) (goes_on r.path path) t in
+      by r t whole.0 (came_from c rs r (All-contains_itself now i d within))))
     where
-      all : List Record
-      all = filter_map staged_by (c ∷ cs)
+      by : (r : Record) → is_around path r ≡ true → (r.mode == directory_mode) ≡ true → CameFrom c rs r → ⊥
+      by r t m (inl n) = whole_new check kind c r f n (whole_kind r.mode m)
+      by r t m (inr p) = not_around path rs out r p.0 t
 
-      from : CameFrom c rs r → Contains (rs ++ all) r
-      from (inl e) = Contains-append_right rs all r (head_staged c cs r e)
-      from (inr p) = Contains-append_left rs all r p.0
+  module _ (out : lies_in_whole (path_of c) rs ≡ false) (fit : AreFit pass kind (merged_in rs)) where
+    around_new : (r : Record) (path : List ℕ) → Contains (merged_in rs) r → is_removed r.flags ≡ false
+        → named_kind r.mode ≡ Some kinds.Tree → path ≡ path_of c → BeginsWith path r.path → path ≡ r.path
+    around_new r path there present e same b =
+        let has = (All-contains (IsFit pass kind) (merged_in rs) r fit.each there present).1 in
+        let tree : has.0 ≡ kinds.Tree = same_Some has.0 kinds.Tree (sym has.1.0 ∙ e) in
+        by (goes_behind r.path path b.0 b.1 (slash_end pass 2048 has.0 r.path has.1.1 tree))
+      where
+        by : (path ≡ r.path) ⊎ (goes_on r.path path ≡ true) → path ≡ r.path
+        by (inl x) = x
+        by (inr x) = absurd (not_around (path_of c) rs out r (merged_parts rs r there).0
+            (and_to (r.mode == directory_mode) (goes_on r.path (path_of c)) (whole_mode r.mode e)
+            (subst (λ (l : List ℕ). goes_on r.path l ≡ true) same x)))
 
-      by : Contains (applied_one c rs) r ⊎ Contains (filter_map staged_by cs) r → Contains (rs ++ all) r
-      by (inl g) = from (came_from c rs r g)
-      by (inr g) = Contains-append_right rs all r (tail_staged c cs r g)
+    inside_stays : (s t : Staged) (o : IsOrigin now s) (p : IsOrigin now t) → IsInside t.path s → t.path ≡ s.path
+    inside_stays s t o p i =
+        by (came_from c rs o.origin (merged_parts now o.origin o.there).0)
+        (came_from c rs p.origin (merged_parts now p.origin p.there).0)
+      where
+        m : IsStagedOf o.origin s
+        m = staged_of o.origin s o.entry
 
-  pub outside_then : AreOutside (with_staged (c ∷ cs) rs) → AreOutside (with_staged cs (applied_one c rs))
-  outside_then a = record { outside = λ r q x y. a.outside r q (earlier r x) (earlier q y) }
+        n : IsStagedOf p.origin t
+        n = staged_of p.origin t p.entry
 
-  pub apart_then : LieApart (staged_in (merged_in rs)) → AreOutside (with_staged (c ∷ cs) rs)
-      → LieApart (staged_in (merged_in (applied_one c rs)))
-  apart_then apart a =
-      let now = applied_one c rs in
-      record {
-        below = λ s t x y b. below_stays rs c apart s t (origin_of now s x) (origin_of now t y) b;
-        inside = λ s t x y i.
-            let o = origin_of now s x in
-            let p = origin_of now t y in
-            let m = staged_of o.origin s o.entry in
-            let n = staged_of p.origin t p.entry in
-            let later = filter_map staged_by cs in
-            n.path ∙ (outside_then a).outside o.origin p.origin
-            (Contains-append_left now later o.origin (merged_parts now o.origin o.there).0)
-            (Contains-append_left now later p.origin (merged_parts now p.origin p.there).0)
-            (m.kind ∙ ap Some i.0) (i.1.0, sym n.path ∙ i.1.1 ∙ ap (λ (l : List ℕ). l ++ i.1.0) m.path) ∙ sym m.path;
-      }
+        whole : named_kind o.origin.mode ≡ Some kinds.Tree
+        whole = m.kind ∙ ap (λ (k : EntryKind). Some k) i.0
+
+        merged : (r : Record) → Contains rs r → Contains (merged_in now) r → Contains (merged_in rs) r
+        merged r x there = merged_of rs r x (merged_parts now r there).1
+
+        begins : BeginsWith t.path o.origin.path
+        begins = (i.1.0, i.1.1 ∙ ap (λ (l : List ℕ). l ++ i.1.0) m.path)
+
+        by : CameFrom c rs o.origin → CameFrom c rs p.origin → t.path ≡ s.path
+        by (inl e) y = absurd (whole_new check kind c o.origin f e whole)
+        by (inr x) (inl e) =
+            around_new o.origin t.path (merged o.origin x.0 o.there) m.present whole (n.path ∙ new_path c p.origin e) begins
+            ∙ sym m.path
+        by (inr x) (inr y) = fit.apart.inside s t
+            (staged_there (merged_in rs) o.origin s (merged o.origin x.0 o.there) o.entry)
+            (staged_there (merged_in rs) p.origin t (merged p.origin y.0 p.there) p.entry) i
+
+    pub apart_then : LieApart (staged_in (merged_in now))
+    apart_then = record {
+      below = λ s t x y b. below_stays rs c fit.apart s t (origin_of now s x) (origin_of now t y) b;
+      inside = λ s t x y i. inside_stays s t (origin_of now s x) (origin_of now t y) i;
+    }

@@ -1,14 +1,15 @@
 -- Entries that have trees still have them behind changes.
-use Rattle.std.proofs.Common.{◌≡◌, ℕ, List, [], ◌∷◌, All, None, refl}
-use Rattle.std.proofs.lemmas.List.Elements.{All-head, All-tail}
+use Rattle.std.proofs.Common.{◌≡◌, ℕ, false, List, [], ◌∷◌, All, None, refl}
+use Rattle.std.proofs.lemmas.List.Elements.{All-head, All-tail, All-weaker}
 use Rattle.index_parts.specs.declared.hash.Kind.{Kind}
 use Rattle.index_objects.specs.NameCheck.{refusal_as}
 use Rattle.index_objects.specs.declared.object.tree.EntryKind.{EntryKind}
 use Rattle.index_objects.specs.declared.object.tree.EntryKind.TheVariants as kinds
 use Rattle.index_entries.specs.Order.{IsStrictlyOrdered}
 use Rattle.index_entries.specs.Record.{Record}
-use Rattle.index_edits.specs.Changes.{applied, applied_one}
+use Rattle.index_edits.specs.Changes.{applied, applied_one, path_of}
 use Rattle.index_edits.specs.Refusals.{Check}
+use Rattle.index_edits.specs.Wholes.{lies_in_whole}
 use Rattle.index_edits.specs.declared.change.Change.{Change}
 use Rattle.index_edits.proofs.Swaps.{one_ordered}
 use Rattle.index_tree_writer.specs.Refusals.{AreFit}
@@ -16,7 +17,8 @@ use Rattle.index_tree_writer.specs.Staged.{merged_in}
 use Rattle.index_tree_writer.specs.TreeIds.{any_name}
 use Rattle.index_edit_laws.proofs.ApartEntries.{apart_then, outside_then}
 use Rattle.index_edit_laws.proofs.FitEntries.{each_fit}
-use Rattle.index_edit_laws.specs.Faultless.{AreFaultless, AreOutside, StagesFaultless, with_staged}
+use Rattle.index_edit_laws.proofs.WholeDirectories.{all_outside}
+use Rattle.index_edit_laws.specs.Faultless.{AreFaultless, StagesFaultless}
 
 pub entries_ordered : (cs : List Change) (rs : List Record) → IsStrictlyOrdered rs → IsStrictlyOrdered (applied cs rs)
 unfolding applied
@@ -26,14 +28,20 @@ entries_ordered (c ∷ cs) rs o = entries_ordered cs (applied_one c rs) (one_ord
 module _ (check pass : Check) (kind : Kind)
     (weaker : (name : List ℕ) (j : EntryKind) → refusal_as check name j ≡ None → refusal_as pass name j ≡ None) where
   stay_fit : (cs : List Change) (rs : List Record) → All (StagesFaultless check kind) cs
-      → AreOutside (with_staged cs rs) → AreFit pass kind (merged_in rs) → AreFit pass kind (merged_in (applied cs rs))
+      → All (λ c. lies_in_whole (path_of c) rs ≡ false) cs → AreFit pass kind (merged_in rs)
+      → AreFit pass kind (merged_in (applied cs rs))
   unfolding applied
   stay_fit [] rs s o a = a
   stay_fit (c ∷ cs) rs s o a =
       let Q = StagesFaultless check kind in
-      stay_fit cs (applied_one c rs) (All-tail Q c cs s) (outside_then c cs rs o) (record {
-        each = each_fit check pass kind weaker c rs (All-head Q c cs s) a;
-        apart = apart_then c cs rs a.apart o;
+      let Out = λ (d : Change). lies_in_whole (path_of d) rs ≡ false in
+      let now = applied_one c rs in
+      let f = All-head Q c cs s in
+      stay_fit cs now (All-tail Q c cs s)
+      (All-weaker Out (λ d. lies_in_whole (path_of d) now ≡ false) (λ d h. outside_then check pass kind c rs f (path_of d) h)
+      cs (All-tail Out c cs o)) (record {
+        each = each_fit check pass kind weaker c rs f a;
+        apart = apart_then check pass kind c rs f (All-head Out c cs o) a;
       })
 
 -- a check that lets each name pass does
@@ -46,7 +54,7 @@ any_passes name kinds.Commit = refl
 
 module _ (check : Check) (kind : Kind) (cs : List Change) (rs : List Record) (f : AreFaultless check kind cs rs) where
   pub any_fit : AreFit any_name kind (merged_in rs) → AreFit any_name kind (merged_in (applied cs rs))
-  any_fit a = stay_fit check any_name kind (λ name k e. any_passes name k) cs rs f.each f.outside a
+  any_fit a = stay_fit check any_name kind (λ name k e. any_passes name k) cs rs f.each (all_outside cs rs f.outside) a
 
   pub checked_fit : AreFit check kind (merged_in rs) → AreFit check kind (merged_in (applied cs rs))
-  checked_fit a = stay_fit check check kind (λ name k e. e) cs rs f.each f.outside a
+  checked_fit a = stay_fit check check kind (λ name k e. e) cs rs f.each (all_outside cs rs f.outside) a

@@ -4,7 +4,7 @@ use Rattle.std.proofs.Common.{◌&&◌, not, length, get_or, Option, Some, None,
 use Rattle.std.proofs.Common.{arith}
 use Rattle.std.specs.Prelude.{◌≢◌, position}
 use Rattle.std.specs.List.{Contains}
-use Rattle.std.specs.Option.{option_map}
+use Rattle.std.specs.Option.{option_map, option_or}
 use Rattle.std.proofs.lemmas.Bool.{eqb-false, eqb-true}
 use Rattle.std.proofs.lemmas.List.Elements.{All-contains, All-contains_itself, All-filter}
 use Rattle.std.proofs.lemmas.List.Elements.{filter_passes}
@@ -15,22 +15,24 @@ use Rattle.index_parts.specs.declared.hash.Kind.TheVariants as hashes
 use Rattle.index_objects.specs.Mode.{named_kind}
 use Rattle.index_objects.specs.NameCheck.{refusal_as}
 use Rattle.index_objects.specs.declared.object.tree.EntryKind.{EntryKind}
+use Rattle.index_objects.specs.declared.object.tree.EntryKind.TheVariants as kinds
 use Rattle.index_entries.specs.EntryImage.{is_removed}
 use Rattle.index_entries.specs.Record.{Record, with_path}
 use Rattle.index_entries.specs.declared.Pathless.{Pathless}
 use Rattle.index_metadata.specs.Flags.{stage_number}
 use Rattle.index_edits.specs.Changes.{applied_one}
-use Rattle.index_edits.specs.Refusals.{Check, fault_as, fault_of, id_fault, kind_fault, path_fault, whole_path_fault}
+use Rattle.index_edits.specs.Refusals.{Check, fault_as, fault_of, id_fault, kind_fault, names_fault, names_of, path_fault}
 use Rattle.index_edits.specs.declared.change.Change.{Change}
 use Rattle.index_edits.specs.declared.change.Change.TheVariants as changes
 use Rattle.index_edits.specs.declared.error.Error.{Error}
 use Rattle.index_edits.specs.declared.error.Error.TheVariants as errors
 use Rattle.index_edits.proofs.Stagings.{contains_filter}
+use Rattle.index_edits.proofs.Whys.{neither}
 use Rattle.index_edits.proofs.Swaps.{CameFrom, IsNew, came_from}
 use Rattle.index_tree_writer.specs.Refusals.{AreFit, IsFit}
 use Rattle.index_tree_writer.specs.Staged.{is_unmerged, merged_in}
 use Rattle.index_edit_laws.proofs.FirstNames.{nowhere}
-use Rattle.index_edit_laws.proofs.MadeOfNames.{neither, not_some, path_made}
+use Rattle.index_edit_laws.proofs.MadeOfNames.{file_made, not_some}
 use Rattle.index_edit_laws.specs.Faultless.{IsFaultless, StagesFaultless}
 
 -- ---- which records are merged
@@ -87,21 +89,32 @@ merged_stage flags u r = by (stage_number flags == 0) refl
 
 module _ (check pass : Check) (kind : Kind)
     (weaker : (name : List ℕ) (j : EntryKind) → refusal_as check name j ≡ None → refusal_as pass name j ≡ None) where
-  of_mode : (entry : Pathless) (path : List ℕ) → ((length path == 0) ≡ false) × All (λ b. b ≢ 0) path
-      → IsFaultless check kind entry path → is_unmerged entry.flags.0 ≡ false → (o : Option EntryKind)
-      → named_kind entry.mode.0 ≡ o → fault_as check kind entry path o ≡ None → IsFit pass kind (with_path path entry)
-  of_mode entry path p f u None e h = absurd cc
-  of_mode entry path p f u (Some k) e h = λ present.
-      let n = neither (id_fault kind entry.id) (whole_path_fault check k path) h in
+  of_named : (entry : Pathless) (path : List ℕ) → ((length path == 0) ≡ false) × All (λ b. b ≢ 0) path
+      → IsFaultless check kind entry path → is_unmerged entry.flags.0 ≡ false → (k : EntryKind) → k ≢ kinds.Tree
+      → named_kind entry.mode.0 ≡ Some k → option_or (id_fault kind entry.id) (names_fault check k (names_of path)) ≡ None
+      → IsFit pass kind (with_path path entry)
+  of_named entry path p f u k file e h = λ present.
+      let n = neither (id_fault kind entry.id) (names_fault check k (names_of path)) h in
       let i = neither (kind_fault kind (id_kind entry.id))
       (cond (is_null (id_bytes entry.id)) (Some errors.NullId) None)
       n.0 in
       let same = same_kind kind (id_kind entry.id) i.0 in (
         merged_stage entry.flags.0 u present,
-        (k, (e, path_made check pass weaker k path p.0 p.1 f.shallow n.1)),
+        (k, (e, file_made check pass weaker k path file p.1 f.shallow n.1)),
         (same, f.sized ∙ ap id_len same),
         not_null (is_null (id_bytes entry.id)) i.1,
       )
+
+  of_mode : (entry : Pathless) (path : List ℕ) → ((length path == 0) ≡ false) × All (λ b. b ≢ 0) path
+      → IsFaultless check kind entry path → is_unmerged entry.flags.0 ≡ false → (o : Option EntryKind)
+      → named_kind entry.mode.0 ≡ o → fault_as check kind entry path o ≡ None → IsFit pass kind (with_path path entry)
+  of_mode entry path p f u None e h = absurd cc
+  of_mode entry path p f u (Some kinds.Tree) e h = absurd cc
+  of_mode entry path p f u (Some kinds.Blob) e h = of_named entry path p f u kinds.Blob (λ z. absurd cc) e h
+  of_mode entry path p f u (Some kinds.BlobExecutable) e h =
+      of_named entry path p f u kinds.BlobExecutable (λ z. absurd cc) e h
+  of_mode entry path p f u (Some kinds.Link) e h = of_named entry path p f u kinds.Link (λ z. absurd cc) e h
+  of_mode entry path p f u (Some kinds.Commit) e h = of_named entry path p f u kinds.Commit (λ z. absurd cc) e h
 
   staged_fit : (entry : Pathless) (path : List ℕ) → IsFaultless check kind entry path
       → is_unmerged entry.flags.0 ≡ false → IsFit pass kind (with_path path entry)

@@ -13,3 +13,4 @@ mod RightTrees
 mod SoundIndexes
 mod SoundTrees
 mod Spelled
+mod WholeDirectories

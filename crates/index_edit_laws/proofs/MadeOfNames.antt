@@ -15,18 +15,15 @@ use Rattle.std.proofs.Math.Seq.{drop-cons}
 use Rattle.index_objects.specs.NameCheck.{refusal_as}
 use Rattle.index_objects.specs.declared.object.tree.EntryKind.{EntryKind}
 use Rattle.index_objects.specs.declared.object.tree.EntryKind.TheVariants as kinds
-use Rattle.index_edits.specs.Refusals.{Check, name_fault, names_fault, names_of, whole_path_fault}
+use Rattle.index_edits.specs.Refusals.{Check, name_fault, names_fault, names_of}
 use Rattle.index_edits.specs.declared.error.Error.TheVariants as errors
 use Rattle.index_edits.proofs.Names.{first_name, last_name}
+use Rattle.index_edits.proofs.Whys.{neither}
 use Rattle.index_invalidation.specs.Invalidation.{slash_of}
 use Rattle.index_tree_writer.specs.Directory.{IsName}
-use Rattle.index_tree_writer.specs.Refusals.{IsTreePath, of_file, of_directory, beneath}
+use Rattle.index_tree_writer.specs.Refusals.{IsTreePath, of_file, beneath}
 use Rattle.index_tree_writer.proofs.PathNames.{NoSlash}
 use Rattle.index_edit_laws.proofs.FirstNames.{front_no_slash, no_slash, nowhere, split_at}
-
-pub neither : {X : Type 0} (a b : Option X) → option_or a b ≡ None → (a ≡ None) × (b ≡ None)
-neither None b h = (refl, h)
-neither (Some x) b h = absurd cc
 
 pub not_some : {X Y : Type 0} (f : X → Y) (o : Option X) → option_map f o ≡ None → o ≡ None
 not_some f None h = refl
@@ -42,11 +39,6 @@ counted_behind front rest =
     let one : ℕ → ℕ = λ b. cond (b == 47) 1 0 in
     omega (arith, sum_by-append one front (47 ∷ rest), sum_by-cons one 47 rest)
 
-room : (front rest : List ℕ) (n : ℕ) → slashes (front ++ 47 ∷ rest) ≤ suc n → slashes front ≤ n
-room front rest n few =
-    let one : ℕ → ℕ = λ b. cond (b == 47) 1 0 in
-    omega (arith, few, sum_by-append one front (47 ∷ rest), sum_by-cons one 47 rest)
-
 fewer : (path : List ℕ) (at : ℕ) → slash_of path ≡ Some at → slashes (drop (at + 1) path) + 1 ≤ slashes path
 fewer path at s = subst (λ (l : List ℕ). slashes (drop (at + 1) path) + 1 ≤ slashes l) (sym (split_at path at s))
     (counted_behind (take at path) (drop (at + 1) path))
@@ -60,18 +52,6 @@ before_slash path at s i d within =
 none_slash : (path : List ℕ) → slash_of path ≡ None → All (λ b. (b == 47) ≡ false) path
 none_slash path s k d within =
     fails_before_first (λ b. b == 47) path k d (omega (arith, nowhere (λ b. b == 47) path s, within))
-
-ends_in_slash : (path : List ℕ) → (length path == 0) ≡ false → (slice_index path (length path - 1) == 47) ≡ true
-    → path ≡ take (length path - 1) path ++ 47 ∷ []
-ends_in_slash [] some e = absurd cc
-ends_in_slash (c ∷ rest) some e =
-    let path = c ∷ rest in
-    let at = length path - 1 in
-    let within : at < length path = omega arith in
-    sym (take-append-drop at path)
-    ∙ ap (λ (l : List ℕ). take at path ++ l) (drop-cons path at 0 within
-    ∙ ap (λ (b : ℕ). b ∷ drop (suc at) path) (eqb-true (get_or path at 0) 47 e)
-    ∙ ap (λ (l : List ℕ). 47 ∷ l) (drop_all (suc at) path (omega arith)))
 
 -- ---- one name
 
@@ -154,38 +134,10 @@ module _ (check pass : Check) (k : EntryKind)
 
 module _ (check pass : Check)
     (weaker : (name : List ℕ) (j : EntryKind) → refusal_as check name j ≡ None → refusal_as pass name j ≡ None) where
-  file_made : (k : EntryKind) (path : List ℕ) → k ≢ kinds.Tree → All (λ b. b ≢ 0) path → slashes path ≤ 2048
+  pub file_made : (k : EntryKind) (path : List ℕ) → k ≢ kinds.Tree → All (λ b. b ≢ 0) path → slashes path ≤ 2048
       → names_fault check k (names_of path) ≡ None → IsTreePath pass 2048 k path
   file_made k path o a few h =
       subst (IsTreePath pass 2048 k) (append-nil path)
       (names_made check pass k weaker 0 []
       (λ levels name p. subst (IsTreePath pass (levels + 0) k) (sym (append-nil name))
       (of_file (levels + 0) k name o p.0 p.1)) 2048 path a few h)
-
-  whole_made : (path : List ℕ) → (length path == 0) ≡ false → All (λ b. b ≢ 0) path → slashes path ≤ 2048
-      → whole_path_fault check kinds.Tree path ≡ None → IsTreePath pass 2048 kinds.Tree path
-  whole_made path some a few h = by (slice_index path (length path - 1) == 47) refl h
-    where
-      front : List ℕ
-      front = take (length path - 1) path
-
-      by : (b : Bool) → (slice_index path (length path - 1) == 47) ≡ b
-          → cond b (names_fault check kinds.Tree (names_of front)) (Some errors.NoSlash) ≡ None
-          → IsTreePath pass 2048 kinds.Tree path
-      by false e g = absurd cc
-      by true e g =
-          let is = ends_in_slash path some e in
-          let less = room front [] 2047 (subst (λ (l : List ℕ). slashes l ≤ 2048) is few) in
-          subst (IsTreePath pass 2048 kinds.Tree) (sym is)
-          (names_made check pass kinds.Tree weaker 1 (47 ∷ [])
-          (λ levels name p. let next : suc levels ≡ levels + 1 = omega arith in
-          subst (λ (n : ℕ). IsTreePath pass n kinds.Tree (name ++ 47 ∷ [])) next
-          (of_directory levels name p.0 p.1)) 2047 front (All-take (λ b. b ≢ 0) (length path - 1) path a) less g)
-
-  pub path_made : (k : EntryKind) (path : List ℕ) → (length path == 0) ≡ false → All (λ b. b ≢ 0) path
-      → slashes path ≤ 2048 → whole_path_fault check k path ≡ None → IsTreePath pass 2048 k path
-  path_made kinds.Tree path some a few h = whole_made path some a few h
-  path_made kinds.Blob path some a few h = file_made kinds.Blob path (λ z. absurd cc) a few h
-  path_made kinds.BlobExecutable path some a few h = file_made kinds.BlobExecutable path (λ z. absurd cc) a few h
-  path_made kinds.Link path some a few h = file_made kinds.Link path (λ z. absurd cc) a few h
-  path_made kinds.Commit path some a few h = file_made kinds.Commit path (λ z. absurd cc) a few h

@@ -1,17 +1,13 @@
 -- Which changes leave entries that have trees (git-update-index, "--cacheinfo"; git-write-tree).
-use Rattle.std.specs.Prelude.{◌≡◌, ℕ, ◌≤◌, ◌==◌, List, ◌++◌, All, Contains, count_by, length}
-use Rattle.std.specs.Prelude.{Option, Some, None}
-use Rattle.std.specs.List.{filter_map}
+use Rattle.std.specs.Prelude.{◌≡◌, ℕ, ◌≤◌, ◌==◌, List, All, count_by, length, None}
 use Rattle.index_parts.specs.Id.{id_bytes, id_kind, id_len}
 use Rattle.index_parts.specs.declared.hash.Kind.{Kind}
-use Rattle.index_objects.specs.Mode.{named_kind}
-use Rattle.index_objects.specs.declared.object.tree.EntryKind.TheVariants as kinds
-use Rattle.index_entries.specs.Record.{Record, with_path}
+use Rattle.index_entries.specs.Record.{Record}
 use Rattle.index_entries.specs.declared.Pathless.{Pathless}
 use Rattle.index_edits.specs.Refusals.{Check, fault_of}
+use Rattle.index_edits.specs.Wholes.{first_in_whole}
 use Rattle.index_edits.specs.declared.change.Change.{Change}
 use Rattle.index_edits.specs.declared.change.Change.TheVariants as changes
-use Rattle.index_tree_writer.specs.Refusals.{BeginsWith}
 
 -- ---- what changes stage
 
@@ -38,21 +34,7 @@ StagesFaultless check kind (changes.Unstage path) = Unit {0}
 
 -- ---- among which entries
 
--- the record that a change stages
-abbrev pub staged_by : Change → Option Record
-staged_by (changes.Stage entry path) = Some (with_path path.now entry)
-staged_by (changes.Unstage path) = None
-
--- the records, and those that the changes stage
-abbrev pub with_staged : List Change → List Record → List Record
-with_staged cs rs = rs ++ filter_map staged_by cs
-
--- in a whole directory of a sparse index lies nothing but itself
-pub record AreOutside (rs : List Record) : Type 0 where
-  pub outside : (r q : Record) → Contains rs r → Contains rs q
-      → named_kind r.mode ≡ Some kinds.Tree → BeginsWith q.path r.path → q.path ≡ r.path
-
--- each change is such, and none stages anything in a whole directory, nor such a directory over what lies there
+-- each change is such, and no path of one lies in a whole directory of the records
 pub record AreFaultless (check : Check) (kind : Kind) (cs : List Change) (rs : List Record) : Type 0 where
   pub each : All (StagesFaultless check kind) cs
-  pub outside : AreOutside (with_staged cs rs)
+  pub outside : first_in_whole cs rs ≡ None

@@ -1,16 +1,17 @@
 //! Laws of edits of an index: what its checks ask of it stays true. A law computes nothing.
 #![tactic(auto)]
 
-ghost use Rattle.std.specs.Prelude.{◌≡◌, ℕ, ◌+◌, ◌^◌, ◌<◌, ◌≤◌, List, All, IfSome, false, length, None};
+ghost use Rattle.std.specs.Prelude.{◌≡◌, ℕ, ◌+◌, ◌^◌, ◌<◌, ◌≤◌, List, All, IfSome, length, None};
 ghost use Rattle.index_cached_tree.specs.Sound.{CountsAtMost, IsSoundTree};
 ghost use Rattle.index_cached_tree.specs.Tree.{Node};
-ghost use Rattle.index_edit_laws.specs.Faultless.{AreFaultless, AreOutside, StagesFaultless, StagesShallow};
+ghost use Rattle.index_edit_laws.specs.Faultless.{AreFaultless, StagesShallow};
 ghost use Rattle.index_edit_laws.specs.SoundIndex.{IsSoundIndex};
 ghost use Rattle.index_edits.specs.Changes.{applied, refusal_of};
 ghost use Rattle.index_edits.specs.Refusals.{Check};
+ghost use Rattle.index_edits.specs.Wholes.{refusal_among};
 ghost use Rattle.index_edits.specs.declared.change.Change.{Change};
 ghost use Rattle.index_entries.specs.Order.{IsStrictlyOrdered};
-ghost use Rattle.index_entries.specs.Record.{Record, has_directory};
+ghost use Rattle.index_entries.specs.Record.{Record};
 ghost use Rattle.index_extension_writing.specs.MonitorImage.{IsSpellableMonitor};
 ghost use Rattle.index_extension_writing.specs.SpellableCache.{IsSpellableCache};
 ghost use Rattle.index_format.specs.Contents.{Contents};
@@ -42,8 +43,9 @@ pub fn tree_stays_right()
 {}
 
 /// Path and stage strictly increase behind changes, where they did. Merged entries that have trees still have them
-/// behind changes that stage what has no fault, as deep as trees may be, and nothing in a whole directory of a sparse
-/// index: by a check that lets each name pass, as by that of the changes. There is at most one more for each change.
+/// behind changes that stage what has no fault, as deep as trees may be, where no path of a change lies in a whole
+/// directory of a sparse index: by a check that lets each name pass, as by that of the changes. There is at most one
+/// more for each change.
 pub fn entries_stay_fit()
     ensures ordered { (cs : List Change) (rs : List Record) → IsStrictlyOrdered rs
         → IsStrictlyOrdered (applied cs rs) }
@@ -57,13 +59,12 @@ pub fn entries_stay_fit()
         → length (merged_in (applied cs rs)) ≤ length (merged_in rs) + length cs }
 {}
 
-/// Changes of which none is refused stage what has no fault, where their paths aren't too deep. Where no record stands
-/// for a whole directory, nothing lies in one.
+/// Changes of which none is refused stage what has no fault, where their paths aren't too deep, and no path of one lies in
+/// a whole directory of a sparse index.
 pub fn granted_changes_are_faultless()
-    ensures granted { (check : Check) (kind : Kind) (len : ℕ) (cs : List Change)
-        → refusal_of check kind len cs ≡ None → All StagesSized cs → All StagesShallow cs
-        → All (StagesFaultless check kind) cs }
-    ensures outside { (rs : List Record) → has_directory rs ≡ false → AreOutside rs }
+    ensures { (check : Check) (kind : Kind) (len : ℕ) (cs : List Change) (rs : List Record)
+        → refusal_among (refusal_of check kind len cs) cs rs ≡ None → All StagesSized cs
+        → All StagesShallow cs → AreFaultless check kind cs rs }
 {}
 
 /// What `State::verify_entries`, `State::verify_extensions` and `State::verify_tree_ids` ask of an index is true of it

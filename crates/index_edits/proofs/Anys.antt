@@ -1,11 +1,13 @@
 -- Whether some of a list, or of a part of it, pass a test.
 use Rattle.std.proofs.Common.{◌≡◌, ℕ, ◌+◌, ◌-◌, ◌<◌, ◌≤◌, Bool, true, false, ◌&&◌, ◌||◌, List, [], ◌∷◌, length}
-use Rattle.std.proofs.Common.{get_or, drop, filter, ◌⊎◌, inl, inr, refl, ap, ◌∙◌, arith, length-take}
+use Rattle.std.proofs.Common.{get_or, drop, filter, ltb, ◌⊎◌, inl, inr, Some, None, refl, sym, ap, ◌∙◌, arith, length-take}
 use Rattle.std.specs.List.{AllWithin, HoldsAt, list_any}
-use Rattle.std.specs.Prelude.{slice_range, cond}
-use Rattle.std.proofs.lemmas.Bool.{cases_lt}
+use Rattle.std.specs.Prelude.{slice_range, cond, is_some, position}
+use Rattle.std.specs.List.{position_or_len}
+use Rattle.std.proofs.lemmas.Bool.{cases_lt, ltb-false, ltb-true}
 use Rattle.std.proofs.lemmas.List.{get_or-take, get_or-drop, length-drop}
-use Rattle.std.proofs.lemmas.List.Folds.{list_any_none}
+use Rattle.std.proofs.lemmas.List.Folds.{list_any_at, list_any_none}
+use Rattle.std.proofs.lemmas.List.Sums.{fails_before_first, passes_at_first}
 use Rattle.index_lookups.proofs.Closest.{any_here}
 
 part_at : {X : Type 0} (xs : List X) (start end k : ℕ) (d : X) → start + k < end
@@ -61,3 +63,19 @@ pub any_or : {X : Type 0} (p q : X → Bool) (xs : List X)
     → list_any (λ x. p x || q x) xs ≡ (list_any p xs || list_any q xs)
 any_or p q [] = refl
 any_or p q (x ∷ xs) = ap (λ b. (p x || q x) || b) (any_or p q xs) ∙ or_four (p x) (q x) (list_any p xs) (list_any q xs)
+
+-- the first that passes has a place where one passes
+pub any_placed : {X : Type 0} (p : X → Bool) (xs : List X) → is_some (position p xs) ≡ list_any p xs
+any_placed p [] = refl
+any_placed {X} p (x ∷ xs) = by (ltb i (length (x ∷ xs))) refl
+  where
+    i : ℕ
+    i = position_or_len p (x ∷ xs)
+
+    by : (b : Bool) → ltb i (length (x ∷ xs)) ≡ b → is_some (cond b (Some i) None) ≡ list_any p (x ∷ xs)
+    by true e =
+        let within : i < length (x ∷ xs) = ltb-true i (length (x ∷ xs)) e in
+        sym (list_any_at p (x ∷ xs) i x within (passes_at_first p (x ∷ xs) x within))
+    by false e =
+        let far : length (x ∷ xs) ≤ i = ltb-false i (length (x ∷ xs)) e in
+        sym (list_any_none p (x ∷ xs) (λ k d u. fails_before_first p (x ∷ xs) k d (omega (arith, far, u))))

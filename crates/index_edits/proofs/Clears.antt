@@ -4,8 +4,7 @@ use Rattle.std.proofs.Common.{length, get_or, take, All, Result, refl, sym, ap, 
 use Rattle.std.proofs.lemmas.List.{get_or-take, take-take}
 use Rattle.std.proofs.lemmas.List.Elements.{All-weaker}
 use Rattle.std.proofs.lemmas.Bool.{cases_lt}
-use Rattle.std.proofs.lemmas.List.Folds.{list_any_none}
-use Rattle.std.specs.List.{list_any, starts_with}
+use Rattle.std.specs.List.{starts_with}
 use Rattle.std.specs.Prelude.{nat_eq}
 use Rattle.std.proofs.lemmas.Result.{IfOk-weaker}
 use Rattle.index_metadata.specs.Flags.{stage_number}
@@ -64,28 +63,48 @@ above_within n path stage r m t =
     (ap (λ f. starts_with nat_eq (take n path) (f ++ 47 ∷ [])) (sym same)
     ∙ begins_to (take n path) (length r.path) 47 inside slash)
 
--- none stands at a folder that ends in a clear front, and none at one that ends behind it
+never : (b : Bool) → b ≡ true → b ≡ false → ⊥
+never b t f = let both : true ≡ false = sym t ∙ f in cc
+
+-- Where a front is clear, and none stands at a folder that ends behind it and in front of a place, one that stands at a
+-- folder of the path ends at that place or behind it.
+pub ends_behind : (path : List ℕ) (stage : ℕ) (rs : List Record) (known at : ℕ) → IsClear (take known path) stage rs
+    → ((k : ℕ) → known ≤ k → k < at → get_or path k 0 ≡ 47
+    → All (λ r. has_key (take k path) stage r ≡ false) rs)
+    → (k : ℕ) (d : Record) → k < length rs → stands_above path stage (get_or rs k d) ≡ true
+    → at ≤ length (get_or rs k d).path
+ends_behind path stage rs known at clear h k d within t =
+    by (cases_lt (length r.path) at) (cases_lt (length r.path) known)
+  where
+    r : Record
+    r = get_or rs k d
+
+    told : ((record_stage r == stage) ≡ true) × (starts_with nat_eq path (r.path ++ 47 ∷ []) ≡ true)
+    told = and_both (record_stage r == stage) (starts_with nat_eq path (r.path ++ 47 ∷ [])) t
+
+    by : (length r.path < at) ⊎ (at ≤ length r.path) → (length r.path < known) ⊎ (known ≤ length r.path)
+        → at ≤ length r.path
+    by (inr e) q = e
+    by (inl e) (inl l) = absurd (never (stands_above (take known path) stage r) (above_within known path stage r l t)
+        (clear k d within))
+    by (inl e) (inr g) =
+        let at = begins_at r.path path 47 told.1 in
+        absurd (never (has_key (take (length r.path) path) stage r)
+        (key_to (take (length r.path) path) stage r
+        (record { path_is = sym at.2; stage_is = same_number (record_stage r) stage told.0 }))
+        (h (length r.path) g e at.1 k d within))
+
+-- so none does, where the place is the path's end
 pub none_above : (path : List ℕ) (stage : ℕ) (rs : List Record) (known : ℕ) → IsClear (take known path) stage rs
     → ((k : ℕ) → known ≤ k → k < length path → get_or path k 0 ≡ 47
     → All (λ r. has_key (take k path) stage r ≡ false) rs)
-    → false ≡ list_any (stands_above path stage) rs
-none_above path stage rs known clear h = sym (list_any_none (stands_above path stage) rs (λ k d within.
+    → IsClear path stage rs
+none_above path stage rs known clear h k d within = false_from (stands_above path stage (get_or rs k d)) (λ t.
     let r = get_or rs k d in
-    false_from (stands_above path stage r) (λ t. by k d within t (cases_lt (length r.path) known))))
-  where
-    by : (k : ℕ) (d : Record) → k < length rs → stands_above path stage (get_or rs k d) ≡ true
-        → (length (get_or rs k d).path < known) ⊎ (known ≤ length (get_or rs k d).path) → ⊥
-    by k d within t (inl l) =
-        let both : true ≡ false = sym (above_within known path stage (get_or rs k d) l t) ∙ clear k d within in cc
-    by k d within t (inr g) =
-        let r = get_or rs k d in
-        let told = and_both (record_stage r == stage) (starts_with nat_eq path (r.path ++ 47 ∷ [])) t in
-        let at = begins_at r.path path 47 told.1 in
-        let none = h (length r.path) g at.0 at.1 k d within in
-        let some = key_to (take (length r.path) path) stage r
-        (record { path_is = sym at.2; stage_is = same_number (record_stage r) stage told.0 }) in
-        let both : true ≡ false = sym some ∙ none in
-        cc
+    let behind = ends_behind path stage rs known (length path) clear h k d within t in
+    let both = and_both (record_stage r == stage) (starts_with nat_eq path (r.path ++ 47 ∷ [])) t in
+    let at = begins_at r.path path 47 both.1 in
+    omega (arith, at.0, behind))
 
 -- a front of a path that is clear is so too
 pub clear_front : (n : ℕ) (path : List ℕ) (stage : ℕ) (rs : List Record) → IsClear path stage rs

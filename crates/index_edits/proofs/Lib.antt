@@ -1,8 +1,10 @@
 pub mod Anys
 pub mod Applied
+pub mod Arounds
 pub mod Checks
 pub mod Clears
 pub mod Displacings
+pub mod Firsts
 pub mod Members
 pub mod Names
 pub mod NearEnds
@@ -16,3 +18,4 @@ pub mod Stagings
 pub mod Swaps
 pub mod Unstagings
 pub mod Ways
+pub mod Whys

@@ -8,7 +8,7 @@ use Rattle.std.specs.declared.cmp.Ordering.TheVariants.{Less, Equal, Greater}
 use Rattle.std.proofs.Math.Seq.{drop-append_seam, take-append_seam}
 use Rattle.std.proofs.lemmas.List.{drop-map, get_or-drop, length-append, length-drop, length-map, map-append, take-append-drop, take_all}
 use Rattle.std.proofs.lemmas.List.Elements.{All-drop, All-weaker}
-use Rattle.std.proofs.lemmas.List.{drop-drop, take_more}
+use Rattle.std.proofs.lemmas.List.{take_more}
 use Rattle.index_entries.specs.declared.Entry.{Entry}
 use Rattle.index_entries.specs.Order.{IsOrderedByPath, IsStrictlyOrdered, path_cmp, record_cmp}
 use Rattle.index_entries.specs.Record.{IsPlaced, Record, record_in, records_in}
@@ -68,6 +68,10 @@ placed_wider s more t es e h = All-weaker (IsPlaced (length s)) (IsPlaced (lengt
     (λ x p. let n : length s ≤ length t = omega (arith, ap length e, length-append s more) in
     record { inside = omega (arith, p.inside) }) es h
 
+pub back_placed : (len : ℕ) (xs ys : List Entry) → All (IsPlaced len) (xs ++ ys) → All (IsPlaced len) ys
+back_placed len xs ys h =
+    subst (All (IsPlaced len)) (drop-append_seam xs ys) (All-drop (IsPlaced len) (length xs) (xs ++ ys) h)
+
 pub front_ordered : (xs ys : List Record) → IsStrictlyOrdered (xs ++ ys) → IsStrictlyOrdered xs
 front_ordered xs ys o = record {
   less = subst (AllPairs (λ r q. record_cmp r q ≡ Less)) (take-append_seam xs ys)
@@ -122,25 +126,16 @@ same_entry x y e = λ i. record {
   path = e.1.1.1.1 i;
 }
 
-module _ (cs : List Change) (i : ℕ) (old : List Record) (s : List ℕ) (done entries rest : List Entry) (at : ℕ)
-    (is : rest ≡ drop at entries)
-    (p : IsAppliedTo (take i cs) old (records_in s (done ++ drop at entries))) where
-  pub one_more : (d : Change) (t : List ℕ) (now : List Entry) (k : ℕ) → i < length cs
+module _ (cs : List Change) (i : ℕ) (old : List Record) (s : List ℕ) (done rest : List Entry)
+    (p : IsAppliedTo (take i cs) old (records_in s (done ++ rest))) where
+  pub one_more : (d : Change) (t : List ℕ) (now next : List Entry) → i < length cs
       → (IsStrictlyOrdered (records_in s (done ++ rest)) → IsAppliedTo (get_or cs i d ∷ [])
-      (records_in s (done ++ rest)) (records_in t (now ++ drop k rest)))
-      → IsAppliedTo (take (i + 1) cs) old (records_in t (now ++ drop (at + k) entries))
-  one_more d t now k within h =
-      let there = subst (λ l. IsStrictlyOrdered (records_in s (done ++ l)) → IsAppliedTo (get_or cs i d ∷ [])
-      (records_in s (done ++ l)) (records_in t (now ++ drop k l))) is h in
-      let q = subst (λ l. IsAppliedTo (get_or cs i d ∷ []) (records_in s (done ++ drop at entries))
-      (records_in t (now ++ l))) dropped (there p.ordered) in
-      subst (λ l. IsAppliedTo l old (records_in t (now ++ drop (at + k) entries))) (sym (take_more cs i d within))
-      (applied_then (take i cs) (get_or cs i d ∷ []) old _ _ p q)
-    where
-      dropped : drop k (drop at entries) ≡ drop (at + k) entries
-      dropped = drop-drop k at entries
+      (records_in s (done ++ rest)) (records_in t (now ++ next)))
+      → IsAppliedTo (take (i + 1) cs) old (records_in t (now ++ next))
+  one_more d t now next within h =
+      subst (λ l. IsAppliedTo l old (records_in t (now ++ next))) (sym (take_more cs i d within))
+      (applied_then (take i cs) (get_or cs i d ∷ []) old _ _ p (h p.ordered))
 
   pub all_made : (now : List Entry) → length cs ≤ i → now ≡ done ++ rest → IsAppliedTo cs old (records_in s now)
-  all_made now l e =
-      subst (λ es. IsAppliedTo cs old (records_in s es)) (sym (e ∙ ap (λ l. done ++ l) is))
-      (subst (λ l. IsAppliedTo l old (records_in s (done ++ drop at entries))) (take_all i cs l) p)
+  all_made now l e = subst (λ es. IsAppliedTo cs old (records_in s es)) (sym e)
+      (subst (λ l. IsAppliedTo l old (records_in s (done ++ rest))) (take_all i cs l) p)

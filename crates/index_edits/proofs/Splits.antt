@@ -32,7 +32,7 @@ use Rattle.index_edits.proofs.Ways.{key_from}
 
 -- ---- a record beyond a path
 
-prefix_less : (k : ℕ) (p : List ℕ) → k < length p → path_cmp (take k p) p ≡ Less
+pub prefix_less : (k : ℕ) (p : List ℕ) → k < length p → path_cmp (take k p) p ≡ Less
 prefix_less k [] l = absurd (omega arith)
 prefix_less zero (x ∷ p) l = refl
 prefix_less (suc k) (x ∷ p) l =

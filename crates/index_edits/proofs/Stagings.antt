@@ -180,21 +180,34 @@ module _ (new : Record) (old now : List Record) (p : IsPutInto new old now) wher
       (All-weaker (λ r. is_other new r ≡ false) (λ r. not (is_other new r) ≡ true) (λ r e. ap not e) p.behind b))) in
       left_staged now (sym (filter_all (λ r. not (is_other new r)) now stays))
 
+  abbrev AreBelow : Record → Record → Type 0
+  AreBelow r q = record_cmp r q ≡ Less
+
+  parts_ordered : IsStrictlyOrdered old → AllPairs AreBelow p.front × AllPairs AreBelow p.behind
+  parts_ordered o =
+      let whole : AllPairs AreBelow (p.front ++ (p.gone ++ p.behind)) = subst (AllPairs AreBelow) p.was o.less in
+      let front : AllPairs AreBelow p.front = subst (AllPairs AreBelow) (take-append_seam p.front (p.gone ++ p.behind))
+      (pairs_take AreBelow (length p.front) (p.front ++ (p.gone ++ p.behind)) whole) in
+      let rest : AllPairs AreBelow (p.gone ++ p.behind) =
+      subst (AllPairs AreBelow) (drop-append_seam p.front (p.gone ++ p.behind))
+      (pairs_drop AreBelow (length p.front) (p.front ++ (p.gone ++ p.behind)) whole) in
+      let behind : AllPairs AreBelow p.behind = subst (AllPairs AreBelow) (drop-append_seam p.gone p.behind)
+      (pairs_drop AreBelow (length p.gone) (p.gone ++ p.behind) rest) in
+      (front, behind)
+
+  pub now_ordered : IsStrictlyOrdered old → IsStrictlyOrdered now
+  now_ordered o = record {
+    less = subst (AllPairs AreBelow) (sym p.is)
+        (put_ordered new p.front p.behind p.below p.above (parts_ordered o).0 (parts_ordered o).1);
+  }
+
   pub staged_ordered : IsStrictlyOrdered old → IsStrictlyOrdered (staged new old)
-  staged_ordered o =
-      let R : Record → Record → Type 0 = λ r q. record_cmp r q ≡ Less in
-      let whole : AllPairs R (p.front ++ (p.gone ++ p.behind)) = subst (AllPairs R) p.was o.less in
-      let front : AllPairs R p.front = subst (AllPairs R) (take-append_seam p.front (p.gone ++ p.behind))
-      (pairs_take R (length p.front) (p.front ++ (p.gone ++ p.behind)) whole) in
-      let rest : AllPairs R (p.gone ++ p.behind) = subst (AllPairs R) (drop-append_seam p.front (p.gone ++ p.behind))
-      (pairs_drop R (length p.front) (p.front ++ (p.gone ++ p.behind)) whole) in
-      let behind : AllPairs R p.behind = subst (AllPairs R) (drop-append_seam p.gone p.behind)
-      (pairs_drop R (length p.gone) (p.gone ++ p.behind) rest) in
-      record {
-        less = subst (AllPairs R) (sym staged_is)
-            (put_ordered new (filter stay p.front) (filter stay p.behind) below above
-            (AllPairs-filter R stay p.front front) (AllPairs-filter R stay p.behind behind));
-      }
+  staged_ordered o = record {
+    less = subst (AllPairs AreBelow) (sym staged_is)
+        (put_ordered new (filter stay p.front) (filter stay p.behind) below above
+        (AllPairs-filter AreBelow stay p.front (parts_ordered o).0)
+        (AllPairs-filter AreBelow stay p.behind (parts_ordered o).1));
+  }
 
   length_kept : length (staged new old) ≡ length (filter keep old) + 1
   length_kept =

@@ -130,7 +130,7 @@ away c (changes.Stage entry path) a r e =
     (odds_none ((record_stage new == 0) || (record_stage r == record_stage new)) (record_stage r == record_stage new))
 away c (changes.Unstage path) a r e = false_from _ (λ t. a.other (sym e ∙ same_from r.path path.now t))
 
-new_path : (c : Change) (r : Record) → IsNew c r → r.path ≡ path_of c
+pub new_path : (c : Change) (r : Record) → IsNew c r → r.path ≡ path_of c
 new_path (changes.Stage entry path) r e = ap (λ (q : Record). q.path) e
 new_path (changes.Unstage path) r e = absurd e
 

@@ -1,7 +1,7 @@
 -- What stands in the way of a record, above it, below it or at its path.
 use Rattle.std.proofs.Common.{◌≡◌, ℕ, ◌+◌, ◌<◌, ◌≤◌, ◌==◌, Bool, true, false, ◌&&◌, ◌||◌, not, List, [], ◌∷◌}
 use Rattle.std.proofs.Common.{◌++◌, length, get_or, take, All, Option, Some, None, ◌⊎◌, inl, inr, refl, sym, ap}
-use Rattle.std.proofs.Common.{◌∙◌, arith, Result, Ok, Err, IfOk}
+use Rattle.std.proofs.Common.{◌∙◌, arith, Result, Ok, Err}
 use Rattle.std.specs.List.{HoldsAt, list_any, starts_with}
 use Rattle.std.specs.Option.{is_some, ok_or}
 use Rattle.std.specs.Prelude.{is_ok, nat_eq}
@@ -12,9 +12,8 @@ use Rattle.std.proofs.lemmas.List.{get_or_default}
 use Rattle.index_entries.specs.Order.{IsStrictlyOrdered, record_stage}
 use Rattle.index_entries.specs.Record.{Record}
 use Rattle.index_lookups.specs.Closest.{is_below}
-use Rattle.index_lookups.specs.Lookup.{HasKey, IsKeyAt, has_key, insertion_of, place_of}
+use Rattle.index_lookups.specs.Lookup.{HasKey, has_key, insertion_of, place_of}
 use Rattle.index_lookups.specs.Range.{IsRange, is_at, part_of}
-use Rattle.index_lookups.proofs.Closest.{any_here}
 use Rattle.index_lookups.proofs.Lookup.{key_place}
 use Rattle.index_lookups.proofs.RunFilters.{range_is_filter}
 use Rattle.index_lookups.proofs.TableMade.{and_both, and_to, begins_to, same_from, same_to}
@@ -45,20 +44,11 @@ false_from false h = refl
 
 -- ---- above
 
-pub above_at : (path : List ℕ) (stage : ℕ) (rs : List Record) (at : ℕ) (o : Result ℕ ℕ) → at < length path
-    → get_or path at 0 ≡ 47 → is_ok o ≡ true → IfOk o (IsKeyAt (take at path) stage rs)
-    → list_any (stands_above path stage) rs ≡ true
-above_at path stage rs at (Err i) within slash some h = cc
-above_at path stage rs at (Ok i) within slash some h =
-    any_here (stands_above path stage) rs i (
-      h.in_range,
-      λ d.
-          let key = h.here d in
-          let r = get_or rs i d in
-          and_to (record_stage r == stage) (starts_with nat_eq path (r.path ++ 47 ∷ []))
-          (number_to (record_stage r) stage key.stage_is)
-          (rw key.path_is (begins_to path at 47 within slash)),
-    )
+pub above_key : (path : List ℕ) (stage at : ℕ) (r : Record) → at < length path → get_or path at 0 ≡ 47
+    → HasKey (take at path) stage r → stands_above path stage r ≡ true
+above_key path stage at r within slash key =
+    and_to (record_stage r == stage) (starts_with nat_eq path (r.path ++ 47 ∷ []))
+    (number_to (record_stage r) stage key.stage_is) (rw key.path_is (begins_to path at 47 within slash))
 
 nowhere : (o : Option ℕ) (i n : ℕ) → Err i ≡ ok_or o n → o ≡ None
 nowhere None i n e = refl

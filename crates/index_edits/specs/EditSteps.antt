@@ -1,11 +1,11 @@
 -- A list around the place of a new record, and what else goes where it comes (the library's own). The clauses of steps
 -- cite these, and those of whole edits don't.
 use Rattle.std.specs.Prelude.{◌≡◌, ℕ, ◌==◌, nat_eq, ◌&&◌, Bool, false, not, List, [], ◌∷◌, ◌++◌, All, if◌then◌else◌}
-use Rattle.std.specs.Prelude.{◌<◌, ◌≤◌, Result, drop, filter, length, slice_index, take}
+use Rattle.std.specs.Prelude.{◌<◌, ◌≤◌, Option, Result, drop, filter, length, position, slice_index, take}
 use Rattle.std.specs.List.{insert, list_any, starts_with}
 use Rattle.std.specs.declared.cmp.Ordering.TheVariants.{Less, Greater}
 use Rattle.index_entries.specs.Order.{IsOrderedByPath, IsStrictlyOrdered, path_cmp, record_cmp, record_stage}
-use Rattle.index_entries.specs.Record.{Record, records_in, with_path}
+use Rattle.index_entries.specs.Record.{Record, record_in, records_in, with_path}
 use Rattle.index_entries.specs.declared.Entry.{Entry}
 use Rattle.index_entries.specs.declared.Pathless.{Pathless}
 use Rattle.index_lookups.specs.Closest.{is_below}
@@ -83,9 +83,9 @@ has_stage same stage rs = list_any (λ r. is_of_stage same stage (record_stage r
 abbrev pub has_below : List ℕ → ℕ → List Record → Bool
 has_below path stage rs = list_any (stands_below path stage) rs
 
--- one of the stage is a file where the path needs a folder
-abbrev pub has_above : List ℕ → Stage → List Record → Bool
-has_above path stage rs = list_any (stands_above path (stage_code stage)) rs
+-- the place of the first of the stage that is a file where the path needs a folder
+abbrev pub first_above : List ℕ → Stage → List Record → Option ℕ
+first_above path stage rs = position (stands_above path (stage_code stage)) rs
 
 -- one is a file where the entry at the path needs a folder, or the other way round
 abbrev pub has_odds : List ℕ → Pathless → List Record → Bool
@@ -111,8 +111,14 @@ pub record TellsInTheWay (known : ℕ) (path : List ℕ) (entry : Pathless) (rs 
   pub others : IsStrictlyOrdered rs → IsClearUpto known path entry rs
       → told_others ≡ list_any (is_other (with_path path entry)) rs
 
--- those entries are taken out that go where the new record comes, and have another path or another stage
+-- those of the entries that stay where the new record comes
+abbrev pub staying : List ℕ → Record → List Entry → List Entry
+staying storage new es = filter (λ e. not (is_other new (record_in storage e))) es
+
+-- Where the records strictly increase, those entries are taken out that go where the new record comes, and have another
+-- path or another stage.
 pub record RemovesOthers (new : Record) (storage : List ℕ) (old now : Entries) : Type 0 where
-  pub left : records_in storage now.items ≡ filter (λ r. not (is_other new r)) (records_in storage old.items)
+  pub left : IsStrictlyOrdered (records_in storage old.items)
+      → records_in storage now.items ≡ filter (λ r. not (is_other new r)) (records_in storage old.items)
   pub fewer : length now.items ≤ length old.items
   pub placed : StayInStorage storage old.items storage now.items

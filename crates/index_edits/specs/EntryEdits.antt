@@ -9,9 +9,10 @@ use Rattle.index_entries.specs.Record.{IsPlaced, Record, records_in, with_path}
 use Rattle.index_entries.specs.declared.Entry.{Entry}
 use Rattle.index_entries.specs.declared.Pathless.{Pathless}
 use Rattle.index_lookups.specs.Range.{is_at}
-use Rattle.index_edits.specs.Changes.{IsAppliedTo, SaysRefusal, refusal_of}
+use Rattle.index_edits.specs.Changes.{IsAppliedTo, refusal_of}
 use Rattle.index_edits.specs.Edits.{IsResolvedInto, IsStagedInto, IsToldOf, IsUnstagedFrom, merged}
-use Rattle.index_edits.specs.Refusals.{Check, SaysReason, fault_of}
+use Rattle.index_edits.specs.Refusals.{Check, fault_of}
+use Rattle.index_edits.specs.Wholes.{SaysReasonAmong, SaysRefusalAmong}
 use Rattle.index_edits.specs.declared.change.ApplyError.{ApplyError}
 use Rattle.index_edits.specs.declared.change.Change.{Change}
 use Rattle.index_edits.specs.declared.error.Error.{Error}
@@ -71,26 +72,29 @@ pub record ResolvesEntry {E : Type 0} (entry : Pathless) (path : List ℕ) (s : 
   pub resolved : PutsEntry (IsResolvedInto (with_path path (merged entry))) path s es t ds r
   pub told : IfOk r (TellsOf (merged entry) path s es)
 
--- nothing is at fault with an entry that is staged at a path; or the error says what is, or else a want of room in the
--- storage, or of memory
-abbrev pub SaysWhy : {T : Type 0} → Check → Kind → Pathless → List ℕ → Storage → Result T Error → Type 0
-SaysWhy refusal kind entry path s r = SaysReason (fault_of refusal kind entry path) (length s.items) path r
+-- Nothing is at fault with an entry that is staged at a path, which lies in no whole directory. Or the error says what is;
+-- or else that it lies in one; or else a want of room in the storage, or of memory.
+abbrev pub SaysWhy : {T : Type 0} → Check → Kind → Pathless → List ℕ → Storage → Entries → Result T Error → Type 0
+SaysWhy refusal kind entry path s es r =
+    SaysReasonAmong (fault_of refusal kind entry path) (length s.items) path (records_in s.items es.items) r
 
 -- an entry is staged at a path, or it is told why not
 pub record StagesAllowed (refusal : Check) (kind : Kind) (entry : Pathless) (path : List ℕ) (s : Storage) (es : Entries)
     (t : Storage) (ds : Entries) (r : Result Displaced Error) : Type 0 where
-  pub reason : SaysWhy refusal kind entry path s r
+  pub reason : SaysWhy refusal kind entry path s es r
   pub made : SettlesEntry entry path s es t ds r
 
 -- a merged entry is put in place of all stages of a path, or it is told why not
 pub record ResolvesAllowed (refusal : Check) (kind : Kind) (entry : Pathless) (path : List ℕ) (s : Storage)
     (es : Entries) (t : Storage) (ds : Entries) (r : Result Displaced Error) : Type 0 where
-  pub reason : SaysWhy refusal kind (merged entry) path s r
+  pub reason : SaysWhy refusal kind (merged entry) path s es r
   pub made : ResolvesEntry entry path s es t ds r
 
 -- no change is refused; or the error says the first that is, or else a want of memory
-abbrev pub SaysFirstRefused : {T : Type 0} → Check → Kind → List Change → Storage → Result T ApplyError → Type 0
-SaysFirstRefused refusal kind cs s r = SaysRefusal (refusal_of refusal kind (length s.items) cs) r
+abbrev pub SaysFirstRefused : {T : Type 0} → Check → Kind → List Change → Storage → Entries → Result T ApplyError
+    → Type 0
+SaysFirstRefused refusal kind cs s es r =
+    SaysRefusalAmong (refusal_of refusal kind (length s.items) cs) cs (records_in s.items es.items) r
 
 -- where the records strictly increase, so many of them have the path
 abbrev pub CountsAt : List ℕ → List ℕ → Entries → ℕ → Type 0

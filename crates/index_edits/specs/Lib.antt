@@ -1,3 +1,4 @@
+pub mod Ahead
 pub mod Changes
 pub mod ClearSteps
 pub mod EditSteps
@@ -6,3 +7,4 @@ pub mod EntryEdits
 pub mod NearEnd
 pub mod Refusals
 pub mod Reorders
+pub mod Wholes

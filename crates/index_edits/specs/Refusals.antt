@@ -1,8 +1,8 @@
 -- Why an entry isn't staged (git-update-index, "--cacheinfo"; gitformat-index, "Index entry"). What is named first
 -- decides.
-use Rattle.std.specs.Prelude.{◌⊎◌, ℕ, ◌≤◌, ◌^◌, ◌-◌, ◌==◌, Bool, List, [], ◌∷◌, length, take, Option, Some, None}
+use Rattle.std.specs.Prelude.{◌⊎◌, ℕ, ◌≤◌, ◌^◌, ◌==◌, Bool, List, [], ◌∷◌, length, Option, Some, None}
 use Rattle.std.specs.Prelude.{MatchResult, Result, position}
-use Rattle.std.specs.Prelude.{slice_index, MatchOption, ◌≡◌, if◌then◌else◌}
+use Rattle.std.specs.Prelude.{MatchOption, ◌≡◌, if◌then◌else◌}
 use Rattle.std.specs.List.{slice_split}
 use Rattle.std.specs.Option.{option_or, option_map}
 use Rattle.index_parts.specs.Id.{id_bytes, id_kind, is_null}
@@ -57,18 +57,13 @@ names_fault check kind (name ∷ names) =
 abbrev pub names_of : List ℕ → List (List ℕ)
 names_of path = slice_split (λ b. b == 47) path
 
--- the path of a whole directory has a slash at the end
-abbrev pub whole_path_fault : Check → EntryKind → List ℕ → Option Error
-whole_path_fault check kinds.Tree path =
-    if slice_index path (length path - 1) == 47
-    then names_fault check kinds.Tree (names_of (take (length path - 1) path))
-    else Some errors.NoSlash
-whole_path_fault check kind path = names_fault check kind (names_of path)
-
--- the mode is none of the five; or else what is wrong with the id, or with the names of the path
+-- The mode is none of the five, or that of a whole directory; or else what is wrong with the id, or with the names of the
+-- path.
 abbrev pub fault_as : Check → Kind → Pathless → List ℕ → Option EntryKind → Option Error
 fault_as check kind entry path None = Some (errors.Mode entry.mode)
-fault_as check kind entry path (Some what) = option_or (id_fault kind entry.id) (whole_path_fault check what path)
+fault_as check kind entry path (Some kinds.Tree) = Some errors.WholeDirectory
+fault_as check kind entry path (Some what) =
+    option_or (id_fault kind entry.id) (names_fault check what (names_of path))
 
 -- what is wrong with an entry that is to be staged at a path, if anything is
 unfoldable pub fault_of : Check → Kind → Pathless → List ℕ → Option Error

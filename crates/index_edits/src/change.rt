@@ -3,11 +3,14 @@
 ghost use Rattle.std.specs.Prelude.{◌≡◌, ◌+◌, ◌<◌, ◌^◌, IfOk, OnOk, length};
 ghost use Rattle.index_edits.specs.Changes.{added_len, change_fault, refusal_of, room_fault, path_of};
 ghost use Rattle.index_edits.specs.Refusals.{AnswersFault};
+ghost use Rattle.index_edits.specs.Wholes.{AnswersAmong};
 ghost use Rattle.index_edits.specs.declared.change.ApplyError.TheVariants.{Memory};
 
 use crate::error::Error;
 use crate::refusals::check_entry;
+use crate::wholes::first_in_whole;
 use index_entries::Pathless;
+use index_entries::slice::EntrySlice;
 use index_objects::check::ComponentCheck;
 use index_parts::hash::Kind;
 use std::alloc::AllocError;
@@ -104,9 +107,9 @@ fn check_change<C: ComponentCheck>(
     }
 }
 
-/// That all may be made, one after another, in an index of the kind, whose storage of paths has so many bytes. An error
-/// is the first that may not, with its place.
-pub fn check_changes<C: ComponentCheck>(
+/// That nothing is at fault with any by itself, made one after another in an index of the kind, whose storage of paths has
+/// so many bytes. An error is the first that may not be made, with its place.
+fn check_each<C: ComponentCheck>(
     check: &C,
     kind: Kind,
     len: usize,
@@ -122,4 +125,27 @@ pub fn check_changes<C: ComponentCheck>(
         }
     }
     Ok(())
+}
+
+/// That all may be made of these entries, one after another, in an index of the kind, whose storage of paths has so many
+/// bytes. An error is the first that may not by itself, with its place; or else the first whose path lies in a whole
+/// directory of a sparse index. That it lies in one is promised over entries that strictly increase.
+pub fn check_changes<C: ComponentCheck>(
+    check: &C,
+    kind: Kind,
+    entries: &EntrySlice<'_>,
+    len: usize,
+    changes: &[Change<'_>],
+) -> Result<(), ApplyError>
+    ensures { AnswersAmong (refusal_of (C.refusal check.now) kind len changes.now) changes.now
+        entries.now result }
+{
+    check_each(check, kind, len, changes)?;
+    match first_in_whole(entries, changes) {
+        Some(at) => Err(ApplyError::Refused {
+            at,
+            cause: Error::InWholeDirectory,
+        }),
+        None => Ok(()),
+    }
 }

@@ -38,9 +38,9 @@ pub enum Error {
     /// The id stands for no object.
     #[error("the id is the null id")]
     NullId,
-    /// The path is to stand for a whole directory, but has no slash at the end.
-    #[error("the path stands for a whole directory, but has no slash at the end")]
-    NoSlash,
+    /// The mode is that of a whole directory of a sparse index, which isn't staged.
+    #[error("the mode 40000 is that of a whole directory of a sparse index, which isn't staged")]
+    WholeDirectory,
     /// The path has an empty name: it begins or ends with a slash, or has two in a row.
     #[error("the path has an empty name")]
     EmptyName,
@@ -50,6 +50,9 @@ pub enum Error {
         /// The check's own number of what is wrong with it.
         number: u32,
     },
+    /// The path lies in a directory that a sparse index has as one entry.
+    #[error("the path lies in a directory that a sparse index has as one entry: expand the index first")]
+    InWholeDirectory,
     /// The path is too long for the storage of paths, or that is full.
     #[error("a path of {len} bytes has no place in the storage of paths")]
     PathTooLong {

@@ -4,6 +4,7 @@
 //! What is here speaks of entries as a list, and of the storage in which their paths lie as bytes.
 #![tactic(auto)]
 
+pub mod ahead;
 pub mod apply;
 pub mod change;
 pub mod error;
@@ -16,3 +17,4 @@ mod refusals;
 pub mod resolve;
 pub mod stage;
 pub mod unstage;
+pub mod wholes;

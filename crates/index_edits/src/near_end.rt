@@ -1,14 +1,16 @@
 //! Searches that begin near the end of a list, where the entries that a change concerns mostly stand.
 
-ghost use Rattle.std.specs.Prelude.{◌≡◌, ◌≤◌, IfErr, IfOk, IfSome};
+ghost use Rattle.std.specs.Prelude.{◌≡◌, ◌≤◌, IfErr, IfOk, IfSome, true};
 ghost use Rattle.std.specs.Prelude.{length, ok_or};
-ghost use Rattle.std.specs.Ordering.{is_eq};
-ghost use Rattle.index_entries.specs.Order.{IsOrderedByPath, IsStrictlyOrdered};
+ghost use Rattle.std.specs.List.{AllWithin};
+ghost use Rattle.std.specs.Ordering.{is_eq, is_lt};
+ghost use Rattle.index_entries.specs.Order.{IsOrderedByPath, IsStrictlyOrdered, path_cmp};
 ghost use Rattle.index_lookups.specs.Closest.{is_below};
 ghost use Rattle.index_lookups.specs.Lookup.{IsKeyAt, insertion_of, place_of};
 ghost use Rattle.index_lookups.specs.Range.{IsPart, IsRange, is_at};
 ghost use Rattle.index_metadata.specs.Flags.{stage_code};
 ghost use Rattle.index_search.specs.Halving.{IsRising};
+ghost use Rattle.index_edits.specs.EditSteps.{AreBeyond};
 ghost use Rattle.index_edits.specs.NearEnd.{ClosesIn, FindsFirst};
 
 use index_entries::slice::EntrySlice;
@@ -39,7 +41,7 @@ fn gallop_back<R: Ordered>(places: &R) -> (usize, usize)
 }
 
 /// The first place that isn't before what is looked for. It takes few looks where that place is near the end.
-fn first_near_end<R: Ordered>(places: &R) -> usize
+pub fn first_near_end<R: Ordered>(places: &R) -> usize
     ensures { FindsFirst (R.answers places.now) result }
 {
     let (low, high) = gallop_back(places);
@@ -86,6 +88,35 @@ pub(crate) fn folder_range(entries: &EntrySlice<'_>, folder: &[u8]) -> Option<Ra
         prefix: folder,
         tail: b"/",
     })
+}
+
+/// The first place whose path isn't before this one, over entries whose paths never fall. Over other entries it is at
+/// most the number of entries.
+pub(crate) fn path_start(entries: &EntrySlice<'_>, path: &[u8]) -> usize
+    ensures in_range { result ≤ length entries.now }
+    ensures before { IsOrderedByPath entries.now
+        → AllWithin (λ r. is_lt (path_cmp r.path path.now) ≡ true) entries.now 0 result }
+{
+    first_near_end(&Asked {
+        entries,
+        path,
+        stage: None,
+    })
+}
+
+/// The first place behind all entries that stand before the path or begin with it. It takes few looks where that is near
+/// the end.
+pub(crate) fn prefix_end(entries: &EntrySlice<'_>, path: &[u8]) -> usize
+    ensures in_range { result ≤ length entries.now }
+    ensures beyond { AreBeyond path.now entries.now result }
+{
+    let tail = &[];
+    let places = Prefix {
+        entries,
+        prefix: path,
+        tail,
+    };
+    end_from(&places, first_near_end(&places))
 }
 
 /// The index of the entry at the path and the stage or, as an error, the index where it would be put in. It takes few

@@ -1,11 +1,11 @@
 //! What stands in the way of an entry, told without looking at all others.
 
-ghost use Rattle.std.specs.Prelude.{◌≡◌, IfSome, take};
+ghost use Rattle.std.specs.Prelude.{◌≡◌, ◌<◌, IfSome, length, take};
 ghost use Rattle.std.specs.List.{list_any};
 ghost use Rattle.index_entries.specs.Order.{IsOrderedByPath, IsStrictlyOrdered};
 ghost use Rattle.index_lookups.specs.Range.{LiesWithin, part_of};
 ghost use Rattle.index_metadata.specs.Flags.{stage_code, stage_number};
-ghost use Rattle.index_edits.specs.EditSteps.{IsClear, IsClearUpto, has_above, has_below, has_odds, has_stage};
+ghost use Rattle.index_edits.specs.EditSteps.{IsClear, IsClearUpto, first_above, has_below, has_odds, has_stage};
 ghost use Rattle.index_edits.specs.EditSteps.{is_of_stage, is_side_at};
 
 use crate::near_end::{folder_range, key_place, path_range};
@@ -60,19 +60,27 @@ fn has_below(entries: &EntrySlice<'_>, path: &[u8], stage: StageRaw) -> bool
     has_stage(entries, folder_range(entries, path), stage, true)
 }
 
-/// Whether an entry of the stage is a file where the path needs a folder, other than at the slashes among its first
-/// `known` bytes, where none is known to be.
-fn has_above(entries: &EntrySlice<'_>, path: &[u8], stage: Stage, known: usize) -> bool
-    ensures { IsStrictlyOrdered entries.now
+/// The first place of a file of the stage where the path needs a folder. At the slashes among the path's first `known`
+/// bytes no such file is known to be, and none is looked for.
+pub(crate) fn first_above(
+    entries: &EntrySlice<'_>,
+    path: &[u8],
+    stage: Stage,
+    known: usize,
+) -> Option<usize>
+    ensures in_range { IfSome result (λ i. i < length entries.now) }
+    ensures first { IsStrictlyOrdered entries.now
         → IsClear (take known path.now) (stage_code stage) entries.now
-        → result ≡ has_above path.now stage entries.now }
+        → result ≡ first_above path.now stage entries.now }
 {
     for at in known..path.len() {
-        if path[at] == b'/' && key_place(entries, &path[..at], stage).is_ok() {
-            return true;
+        if path[at] == b'/' {
+            if let Ok(place) = key_place(entries, &path[..at], stage) {
+                return Some(place);
+            }
         }
     }
-    false
+    None
 }
 
 /// Whether an entry is a file where the new one needs a folder, or the other way round. The first `known` bytes of the
@@ -82,5 +90,5 @@ pub fn has_odds(entries: &EntrySlice<'_>, entry: Pathless, path: &[u8], known: u
         → result ≡ has_odds path.now entry entries.now }
 {
     has_below(entries, path, entry.flags.stage_raw())
-        || has_above(entries, path, entry.flags.stage(), known)
+        || first_above(entries, path, entry.flags.stage(), known).is_some()
 }

@@ -3,7 +3,7 @@
 ghost use Rattle.std.specs.Prelude.{◌≡◌, ◌==◌, All, IfSome, IsNone, false, position};
 ghost use Rattle.index_edits.specs.EditSteps.{IsFirstAt};
 ghost use Rattle.index_edits.specs.Refusals.{AnswersFault, fault_of, id_fault, name_fault, names_fault, names_of};
-ghost use Rattle.index_edits.specs.Refusals.{path_fault, whole_path_fault};
+ghost use Rattle.index_edits.specs.Refusals.{path_fault};
 
 use crate::error::Error;
 use index_entries::Pathless;
@@ -77,19 +77,6 @@ fn check_names<C: ComponentCheck>(check: &C, kind: EntryKind, path: &[u8]) -> Re
     check_name(check, kind, rest)
 }
 
-/// The same of a whole path, which has a slash at the end where it is that of a directory.
-fn check_whole<C: ComponentCheck>(check: &C, kind: EntryKind, path: &[u8]) -> Result<(), Error>
-    ensures { AnswersFault (whole_path_fault (C.refusal check.now) kind path.now) result }
-{
-    if !matches!(kind, EntryKind::Tree) {
-        return check_names(check, kind, path);
-    }
-    match path.split_last() {
-        Some((b'/', front)) => check_names(check, kind, front),
-        _ => Err(Error::NoSlash),
-    }
-}
-
 /// That the entry may be staged at the path in an index of the kind.
 #[tactic(auto, unfolding(crate::specs::Refusals::fault_of))]
 pub(crate) fn check_entry<C: ComponentCheck>(
@@ -104,6 +91,10 @@ pub(crate) fn check_entry<C: ComponentCheck>(
     let Some(mode) = entry.mode.to_tree_entry_mode() else {
         return Err(Error::Mode { mode: entry.mode });
     };
+    let what = mode.kind();
+    if matches!(what, EntryKind::Tree) {
+        return Err(Error::WholeDirectory);
+    }
     check_id(kind, &entry.id)?;
-    check_whole(check, mode.kind(), path)
+    check_names(check, what, path)
 }

@@ -6,13 +6,15 @@ ghost use Rattle.index_metadata.specs.Flags.{stage_number};
 ghost use Rattle.index_edits.specs.ClearSteps.{SettlesClear};
 ghost use Rattle.index_edits.specs.EditSteps.{TellsInTheWay, ends_conflict};
 ghost use Rattle.index_edits.specs.EntryEdits.{SettlesEntry, StagesAllowed};
-ghost use Rattle.index_edits.specs.Refusals.{SaysReason, fault_of};
+ghost use Rattle.index_edits.specs.Refusals.{fault_of};
+ghost use Rattle.index_edits.specs.Wholes.{SaysReasonAmong};
 
 use crate::error::Error;
 use crate::odds::{has_odds, has_sides};
 use crate::others::remove_others;
 use crate::put::put;
 use crate::refusals::check_entry;
+use crate::wholes::lies_in_whole;
 use index_entries::path_range::PathRange;
 use index_entries::slice::EntrySlice;
 use index_entries::{Entry, PathStorage, Pathless};
@@ -100,18 +102,25 @@ pub fn settle(
     settle_clear(entries, storage, entry, path, 0)
 }
 
-/// That an entry may be staged at a path in an index of the kind, whose storage of paths has so many bytes. An error is
-/// what is wrong with the path, the mode, the id or a name of the path, or else that the path has no place there.
+/// That an entry may be staged at a path among these, in an index of the kind, whose storage of paths has so many
+/// bytes. An error is what is wrong with the path, the mode, the id or a name of the path; or else that the path lies
+/// in a whole directory of a sparse index; or else that it has no place in the storage. That it lies in one is promised
+/// over entries that strictly increase.
 pub fn check_stage<C: ComponentCheck>(
     check: &C,
     kind: Kind,
+    entries: &EntrySlice<'_>,
     len: usize,
     entry: Pathless,
     path: &[u8],
 ) -> Result<(), Error>
-    ensures { SaysReason (fault_of (C.refusal check.now) kind entry path.now) len path.now result }
+    ensures { SaysReasonAmong (fault_of (C.refusal check.now) kind entry path.now) len path.now
+        entries.now result }
 {
     check_entry(check, kind, entry, path)?;
+    if lies_in_whole(entries, path) {
+        return Err(Error::InWholeDirectory);
+    }
     if PathRange::new(len, path.len()).is_none() {
         return Err(Error::PathTooLong { len: path.len() });
     }
@@ -126,11 +135,12 @@ pub fn check_stage<C: ComponentCheck>(
 /// path. All else stays. So path and stage strictly increase again, and no file is where a folder is, where that was
 /// so before.
 ///
-/// What is wrong with the path, the mode, the id or a name of the path is refused, and a want of room or memory. The
-/// entries and the storage are then as they were. Over entries that don't strictly increase, or with a path outside of
-/// the storage, nothing more is said.
+/// What is wrong with the path, the mode, the id or a name of the path is refused, a path that lies in a whole
+/// directory of a sparse index, and a want of room or memory. The entries and the storage are then as they were. Over
+/// entries that don't strictly increase, or with a path outside of the storage, nothing more is said.
 ///
-/// It makes a few searches and moves what lies behind; where others go, it looks at each entry once.
+/// It makes a few searches and moves what lies behind. Where others go, it looks at each entry from the first of them
+/// on, or from the path on.
 pub fn stage<C: ComponentCheck>(
     entries: &mut Vec<Entry>,
     storage: &mut PathStorage,
@@ -142,7 +152,15 @@ pub fn stage<C: ComponentCheck>(
     ensures { StagesAllowed (C.refusal check.now) kind entry path.now storage.old entries.old
         storage.new entries.new result }
 {
-    check_stage(check, kind, storage.len(), entry, path)?;
+    let len = storage.len();
+    check_stage(
+        check,
+        kind,
+        &EntrySlice::new(entries, storage),
+        len,
+        entry,
+        path,
+    )?;
     let told = settle(entries, storage, entry, path)?;
     Ok(told)
 }

@@ -3,7 +3,7 @@
 mod delta;
 mod entry;
 
-ghost use Rattle.std.specs.Prelude.{◌≡◌, ◌+◌, ◌<◌, ◌≤◌, ◌^◌, ◌++◌, [], length, false, is_err, All, IfSome, IfNone};
+ghost use Rattle.std.specs.Prelude.{◌≡◌, ◌+◌, ◌<◌, ◌≤◌, ◌^◌, ◌++◌, [], length, is_err, All, IfSome, IfNone};
 ghost use Rattle.std.specs.Prelude.{OnOk, OnErr};
 ghost use Rattle.index_parts.specs.Gathered.{Gathers};
 ghost use Rattle.index_parts.specs.Puts.{Puts};
@@ -60,10 +60,8 @@ fn put_behind<W: Out>(
     block: &mut Block,
     out: &mut W,
 ) -> io::Result<()>
-    requires room { block.old.is_full ≡ false }
     ensures gathered { OnOk result (Gathers W.Out out.old out.new block.new.bytes
         (block.old.bytes ++ entry_in version previous.now (record_in storage.now entry.now))) }
-    ensures room { OnOk result (block.new.is_full ≡ false) }
     ensures fault { OnErr result (Puts W.Out out.old out.new result
         (block.old.bytes ++ entry_in version previous.now (record_in storage.now entry.now))) }
 {

@@ -1,6 +1,6 @@
 -- Items that are told one after another behind other events, where what fills a block goes out behind each, and what is
 -- told behind all of them.
-use Rattle.std.proofs.Common.{◌≡◌, ℕ, ◌<◌, ◌≤◌, List, ◌++◌, length, map, take, get_or, Result, Ok, Err, false, true, refl, ap}
+use Rattle.std.proofs.Common.{◌≡◌, ℕ, ◌<◌, ◌≤◌, List, ◌++◌, length, map, take, get_or, Result, Ok, Err, true, refl, ap}
 use Rattle.std.proofs.Common.{◌∙◌}
 use Rattle.std.specs.IoError.{error_kind}
 use Rattle.std.specs.declared.io.Error.{Error}
@@ -34,7 +34,7 @@ module _ {S X Y : Type 0} (w : Ghosts S) (a : S) (spell : Event → List ℕ) (e
       → r ≡ Err e → i < length xs
       → PutsBlocks {T = Unit {0}} w a b (Ok tt) waiting (mid ++ all_shown spell events g (take i xs))
       → full ≡ waiting ++ print spell (events i (g (get_or xs i d))) → AppendsPrefix (w.taken b) (w.taken c) full
-      → (w.failed b ≡ false → w.failed c ≡ true) → w.loan c ≡ w.loan b
+      → w.failed c ≡ true → w.loan c ≡ w.loan b
       → PutsBlocks w a c r later (old ++ print spell ((begin ++ listed events ys) ++ ends))
   item_broken r {e = e} i d {waiting = waiting} err lt before line front failed loan =
       rw err (rest_untold {T = Unit {0}} {U = Unit {0}} spell old (begin ++ listed events ys) ends e {waiting = waiting}

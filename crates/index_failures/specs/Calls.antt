@@ -9,14 +9,13 @@ use Rattle.gix_index.specs.InPlace.{IsPutSince}
 use Rattle.gix_index.specs.InPlace.Locks.{IsReleased, asked_of, lock_of, target_of}
 use Rattle.gix_index.specs.Kind.{Kind}
 use Rattle.gix_index.specs.State.{PathsInStorage, contents}
-use Rattle.gix_index.specs.VersionChoice.{VersionChoice}
+use Rattle.gix_index.specs.WriteOptions.{Options}
 use Rattle.gix_index.specs.WrittenFile.{IsWrittenTo}
 use Rattle.gix_index.specs.declared.file.File.{File}
 use Rattle.gix_index.specs.OnDisk.FolderTrait.{Ghosts}
 use Rattle.gix_index.specs.InPlace.Lock.{Lock}
 use Rattle.index_failures.specs.declared.failure.Failure.{Failure}
 use Rattle.gix_index.specs.OnDisk.Folders.{KeepsManner}
-use Rattle.index_failures.specs.Options.{rewrite_options}
 use Rattle.index_failures.specs.Reading.{FailsReading, IsInFile, IsInFileSince, SaysOfBytes, SaysOfIndex}
 use Rattle.index_failures.specs.Storing.{FailsCommitting, FailsLocking, IsUnderLock}
 
@@ -69,15 +68,14 @@ pub record LocksTarget {S F M : Type 0} (folder : Ghosts S F M) (made : M → Op
   pub fault : IfErr answer (FailsLocking (folder.works old) (folder.known old) to)
   pub manner : KeepsManner folder old new
 
--- The index was written in the place of the file that was locked, with all extensions that it has and that fit, in this
--- version; or the lock was given up, and why.
+-- The index was written in the place of the file that was locked, by these options; or the lock was given up, and why.
 pub record CommitsIndex {S F M : Type 0} (folder : Ghosts S F M) (made : M → Option (List ℕ)) (old new : S) (lock : Lock M)
-    (index : File) (version : VersionChoice) (to : List ℕ) (answer : Result (Unit {0}) Failure) : Type 0 where
-  pub written : OnOk answer ((written : File) × IsWrittenTo (asked_of lock.place) index written (rewrite_options version))
+    (index : File) (options : Options) (to : List ℕ) (answer : Result (Unit {0}) Failure) : Type 0 where
+  pub written : OnOk answer ((written : File) × IsWrittenTo (asked_of lock.place) index written options)
   pub put : OnOk answer (folder.alone old ≡ true → made lock.file ≡ Some []
-      → IsPutSince (folder.known old) (folder.known new) lock.place (contents (state_of index)) (rewrite_options version))
+      → IsPutSince (folder.known old) (folder.known new) lock.place (contents (state_of index)) options)
   pub released : OnErr answer (folder.alone old ≡ true
       → IsReleased (folder.works old) (folder.known old) (folder.known new) (lock_of lock.place))
   pub fault : IfErr answer
-      (FailsCommitting (folder.works old) lock.place (contents (state_of index)) (rewrite_options version) to)
+      (FailsCommitting (folder.works old) lock.place (contents (state_of index)) options to)
   pub manner : KeepsManner folder old new

@@ -1,4 +1,5 @@
 pub mod Calls
+pub mod Nuls
 pub mod Options
 pub mod Reading
 pub mod Storing

@@ -3,8 +3,11 @@ use Rattle.std.specs.Prelude.{◌≡◌, pos, false, None}
 use Rattle.gix_index.specs.Stat.{seconds_of, nanoseconds_of}
 use Rattle.gix_index.specs.FileTime.{FileTime}
 use Rattle.gix_index.specs.DecodeOptions.{Options}
+use Rattle.gix_index.specs.Version.{Version}
+use Rattle.gix_index.specs.Version.TheVariants as versions
 use Rattle.gix_index.specs.VersionChoice.{VersionChoice}
-use Rattle.gix_index.specs.WriteExtensions.TheVariants.{Kept}
+use Rattle.gix_index.specs.VersionChoice.TheVariants.{Smallest, V4}
+use Rattle.gix_index.specs.WriteExtensions.TheVariants.{All, Kept}
 use Rattle.gix_index.specs.WriteOptions.{Options as WriteOptions}
 
 -- no limit, and no id that the trailer has to be
@@ -19,6 +22,16 @@ unlimited_options = record {
 abbrev pub IsBeginOf1970 : FileTime → Type 0
 IsBeginOf1970 time = (seconds_of time ≡ pos 0) × (nanoseconds_of time ≡ 0)
 
+-- the default options but for the chosen version: `TREE`, `sdir` and the end marker, and the digest at the end
+abbrev pub default_options : VersionChoice → WriteOptions
+default_options version = record { extensions = All; version = version; skip_hash = false }
+
 -- the chosen version, all extensions that fit, and the digest at the end
-abbrev pub rewrite_options : VersionChoice → WriteOptions
-rewrite_options version = record { extensions = Kept; version = version; skip_hash = false }
+abbrev pub kept_options : VersionChoice → WriteOptions
+kept_options version = record { extensions = Kept; version = version; skip_hash = false }
+
+-- the same for an index of a version: in version 4 where it has that, and else in the smaller of 2 and 3
+abbrev pub options_as_read : Version → WriteOptions
+options_as_read versions.V4 = kept_options V4
+options_as_read versions.V2 = kept_options Smallest
+options_as_read versions.V3 = kept_options Smallest

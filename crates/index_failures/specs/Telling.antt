@@ -1,5 +1,5 @@
 -- What a command tells of a file, and how it fails that tells (the program's own).
-use Rattle.std.specs.Prelude.{◌≡◌, ◌≢◌, ◌⊎◌, ℕ, false, true, List, Option, Result, IfErr, OnOk}
+use Rattle.std.specs.Prelude.{◌≡◌, ◌≢◌, ◌⊎◌, ℕ, true, List, Option, Result, IfErr, OnOk}
 use Rattle.std.specs.Borrow.{Bor}
 use Rattle.std.specs.Io.KnownBytes.{Appends, Keeps}
 use Rattle.std.specs.IoError.{error_kind}
@@ -44,10 +44,10 @@ pub data FailsTelling (Text : List ℕ → Type 0) (Damaged : ℕ → Error → 
   untold : Fault failure → Keeps old new → FailsTelling Text Damaged Fault path failure Failed old new
 
 -- How a command ends that tells of the file at a path: the output took such a text; or the failure is one of these, and
--- the output took what it says. That it has failed is said of one that hadn't before.
+-- the output took what it says.
 pub record EndsTelling {T : Type 0} (writer : Ghosts T) (old new : T) (Text : List ℕ → Type 0)
     (Damaged : ℕ → Error → List ℕ → Type 0) (Fault : Failure → Type 0) (path : List ℕ)
     (answer : Result (Unit {0}) Failure) : Type 0 where
   pub told : OnOk answer (Tells Text (writer.taken old) (writer.taken new))
   pub refused : IfErr answer (λ failure. FailsTelling Text Damaged Fault path failure
-      (writer.failed old ≡ false → writer.failed new ≡ true) (writer.taken old) (writer.taken new))
+      (writer.failed new ≡ true) (writer.taken old) (writer.taken new))

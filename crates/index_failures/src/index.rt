@@ -80,7 +80,7 @@ pub fn index_at<'a, D: Folder>(
     };
     let time = FileTime::EPOCH;
     let options = decode::Options::default();
-    match File::at(folder, alloc, file, kind, false, time, options) {
+    match File::at_in(folder, alloc, file, kind, false, time, options) {
         Ok(index) => Ok(index),
         Err(fault) => Err(failure_of(path, fault)),
     }

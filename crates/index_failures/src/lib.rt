@@ -2,6 +2,8 @@
 //! the writing of one.
 #![tactic(auto)]
 
+pub mod cause;
 pub mod failure;
 pub mod index;
+pub mod nul;
 pub mod storing;

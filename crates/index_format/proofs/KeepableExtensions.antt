@@ -100,19 +100,14 @@ cache_unlimited kind limit c h = record {
 
 -- ---- all extensions
 
-pub undo_spellable : (kind : Kind) (limit : Option ℕ) (bytes : List ℕ) (items : List Item) (tail : List ℕ) (o : Outcome)
-    → AreBytes bytes → IsWalk bytes items tail → IsOutcome kind limit items o
-    → IfSome o.resolve_undo (AreSpellablePaths kind)
-undo_spellable kind limit bytes items tail o h walk is =
-    read_has (IsResolveUndo kind) (AreSpellablePaths kind) (λ b paths k r. paths_spellable kind b paths [] r)
-    (last_content (codes "REUC") items) o.resolve_undo
-    (last_is (codes "REUC") items (contents_of bytes items tail h walk.items_are)) is.resolve_undo
-
 pub keepable : (kind : Kind) (limit : Option ℕ) (bytes : List ℕ) (items : List Item) (tail : List ℕ) (o : Outcome)
     → AreBytes bytes → IsWalk bytes items tail → IsOutcome kind limit items o → AreKeepable kind o
 keepable kind limit bytes items tail o h walk is =
     let each = contents_of bytes items tail h walk.items_are in
     record {
+      resolve_undo = read_has (IsResolveUndo kind) (AreSpellablePaths kind)
+          (λ b paths k r. paths_spellable kind b paths [] r)
+          (last_content (codes "REUC") items) o.resolve_undo (last_is (codes "REUC") items each) is.resolve_undo;
       untracked = read_has (IsCache kind limit) (λ c. names_are_some c ≡ true → IsSpellableCache kind None c)
           (λ b c k r names. cache_unlimited kind limit c (cache_spellable kind limit b c k.are k.small r names))
           (last_content (codes "UNTR") items) o.untracked (last_is (codes "UNTR") items each) is.untracked;

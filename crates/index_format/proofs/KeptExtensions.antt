@@ -17,7 +17,6 @@ use Rattle.index_entries.proofs.Kept.{written_stored}
 use Rattle.index_extensions.specs.Encoding.{item_bytes}
 use Rattle.index_extension_writing.specs.MonitorImage.{IsSpellableMonitor}
 use Rattle.index_extension_writing.specs.MonitorPlaces.{monitor_is_within}
-use Rattle.index_extension_writing.specs.ResolveUndoImage.{AreSpellablePaths}
 use Rattle.index_extension_writing.specs.SpellableCache.{IsSpellableCache, names_are_some}
 use Rattle.index_format.specs.Outcome.{Outcome}
 use Rattle.index_small_extensions.specs.FsMonitor.{Monitor}
@@ -55,11 +54,11 @@ monitor_has P count (Some m) h = by (monitor_is_within count m)
     by false = tt
 
 pub kept_spellable : (kind : Kind) (fit : Bool) (count : ℕ) (o : Outcome) → IfSome o.tree (IsStorableTree kind)
-    → IfSome o.resolve_undo (AreSpellablePaths kind) → AreKeepable kind o
+    → AreKeepable kind o
     → length (flat_map item_bytes (items kind (kept fit count o))) < 2 ^ 32 → AreSpellable kind (kept fit count o)
-kept_spellable kind fit count o tree undo h small = record {
+kept_spellable kind fit count o tree h small = record {
   tree = ordered_has kind (where_fit fit o.tree) (fit_has (IsStorableTree kind) fit o.tree tree);
-  resolve_undo = undo;
+  resolve_undo = h.resolve_undo;
   untracked = fit_has (IsSpellableCache kind None) fit (cache_with_names o.untracked)
       (cache_has kind o.untracked h.untracked);
   fs_monitor = fit_has IsSpellableMonitor fit (monitor_within count o.fs_monitor)

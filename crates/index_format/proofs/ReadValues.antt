@@ -31,7 +31,7 @@ use Rattle.index_format.specs.Contents.{Contents, parts_contents}
 use Rattle.index_format.specs.Keepable.{AreKeepable}
 use Rattle.index_format.specs.Storable.{IsStorable}
 use Rattle.index_format.proofs.BytesBehind.{before_trailer, behind_entries}
-use Rattle.index_format.proofs.KeepableExtensions.{keepable, undo_spellable}
+use Rattle.index_format.proofs.KeepableExtensions.{keepable}
 
 -- ---- the value of an answer
 
@@ -161,7 +161,7 @@ value_read kind time options bytes v h =
       fit = refl;
       keepable = λ b.
           let all = keepable kind limit h.extensions h.items h.tail h.outcome (h.are_bytes b) h.is_walk h.is_outcome in
-          record { untracked = all.untracked; fs_monitor = all.fs_monitor };
+          record { resolve_undo = all.resolve_undo; untracked = all.untracked; fs_monitor = all.fs_monitor };
       storable = λ b. record {
         ids = each_of (IsKept kind) (λ r. id_kind r.id ≡ kind) (λ r k. k.id) h.records rs.kept;
         paths = each_of (IsKept kind) (λ r. 4095 ≤ length r.path → All (λ b. b ≢ 0) r.path)
@@ -169,8 +169,6 @@ value_read kind time options bytes v h =
         fits = All-from_recursion IsSized h.records (rs.fit (All-drop (λ x. x < 256) 12 bytes b));
         tree = tree_value kind limit (IsStorableTree kind)
             (λ b t. read_storable kind limit b t) content h.outcome.tree h.is_outcome.tree;
-        resolve_undo =
-            undo_spellable kind limit h.extensions h.items h.tail h.outcome (h.are_bytes b) h.is_walk h.is_outcome;
       };
     })
 

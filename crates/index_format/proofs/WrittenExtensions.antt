@@ -136,8 +136,7 @@ chosen_spellable v options h keepable small = by (is_kept options.extensions) ke
         (tree_and_mark (asks_for options.extensions (codes "TREE")) v.extensions)))) < 2 ^ 32
         → AreSpellable v.kind (cond k (kept v.fit (length (written v.records)) v.extensions)
         (tree_and_mark (asks_for options.extensions (codes "TREE")) v.extensions))
-    by true k lt = kept_spellable v.kind v.fit (length (written v.records)) v.extensions h.tree h.resolve_undo
-        (k refl) lt
+    by true k lt = kept_spellable v.kind v.fit (length (written v.records)) v.extensions h.tree (k refl) lt
     by false k lt = record {
       tree = fit_has (IsStorableTree v.kind) (asks_for options.extensions (codes "TREE")) v.extensions.tree h.tree;
       resolve_undo = tt;

@@ -16,13 +16,12 @@ use Rattle.index_format.specs.Contents.{Contents}
 
 -- The ids of all entries, also of those that a file leaves out, are of the value's kind, and all numbers fit their
 -- bits. A path that the length field can't count has no NUL. The cached tree, where there is one, is such that bytes
--- can hold it, and so is resolve-undo.
+-- can hold it.
 pub record IsStorable (v : Contents) : Type 0 where
   pub ids : All (λ r. id_kind r.id ≡ v.kind) v.records
   pub paths : All (λ r. 4095 ≤ length r.path → All (λ b. b ≢ 0) r.path) v.records
   pub fits : All IsSized v.records
   pub tree : IfSome v.extensions.tree (IsStorableTree v.kind)
-  pub resolve_undo : IfSome v.extensions.resolve_undo (AreSpellablePaths v.kind)
 
 -- in version 4 no path that is written has a NUL
 abbrev pub CanEncode : VersionChoice → Contents → Type 0
@@ -39,6 +38,10 @@ pub record IsWritable (v : Contents) (options : Options) : Type 0 where
 abbrev pub IsUnmistakable : Contents → Options → Type 0
 IsUnmistakable v options = v.kind ≡ Sha1 → marks_extensions v options ≡ false → IsMarker v.kind (image v options) None
 
--- where all that fits is kept, an untracked cache can be spelled, and what a monitor said
+-- resolve-undo, where it is there, can be spelled
+abbrev pub CanKeepUndo : Contents → Type 0
+CanKeepUndo v = IfSome v.extensions.resolve_undo (AreSpellablePaths v.kind)
+
+-- where all that fits is kept, resolve-undo, an untracked cache and what a monitor said can be spelled
 abbrev pub IsKeepable : Contents → Options → Type 0
 IsKeepable v options = is_kept options.extensions ≡ true → AreKeepable v.kind v.extensions

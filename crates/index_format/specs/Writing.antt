@@ -1,6 +1,6 @@
 -- What became of a writer (`std::io::Write`) that an index was written to, and why an index is not written (the
 -- library's own; the limits are those of gitformat-index, "A 12-byte header" and "End of Index Entry": 32 bits).
-use Rattle.std.specs.Prelude.{◌≡◌, ℕ, ◌≤◌, ◌<◌, ◌^◌, Bool, true, false, List, length, Option, Result, MatchResult}
+use Rattle.std.specs.Prelude.{◌≡◌, ℕ, ◌≤◌, ◌<◌, ◌^◌, Bool, true, List, length, Option, Result, MatchResult}
 use Rattle.std.specs.Io.KnownBytes.{Appends}
 use Rattle.index_parts.specs.Taking.{AppendsPrefix}
 use Rattle.index_format.specs.Contents.{Contents}
@@ -10,18 +10,18 @@ use Rattle.index_format.specs.declared.write.Options.{Options}
 use Rattle.index_format.specs.declared.write.Error.{Error}
 use Rattle.index_format.specs.declared.write.Error.TheVariants as errors
 
--- the writer took a prefix of the bytes, and has failed where it hadn't before; at a refusal it is as it was
+-- the writer took a prefix of the bytes, and has failed; at a refusal it is as it was
 abbrev pub Fails : {S : Type 0} → (S → Option (List ℕ)) → (S → Bool) → S → S → Error → List ℕ → Type 0
 Fails taken failed old new (errors.Io e) bytes =
-    AppendsPrefix (taken old) (taken new) bytes × (failed old ≡ false → failed new ≡ true)
+    AppendsPrefix (taken old) (taken new) bytes × (failed new ≡ true)
 Fails taken failed old new errors.TooManyEntries bytes = new ≡ old
 Fails taken failed old new errors.NulInPath bytes = new ≡ old
 Fails taken failed old new errors.TooLarge bytes = new ≡ old
 
--- an Ok took the bytes whole, and a writer that hadn't failed still hasn't
+-- an Ok took the bytes whole, and the writer has failed where it had before
 abbrev pub Writes : {S T : Type 0} → (S → Option (List ℕ)) → (S → Bool) → S → S → Result T Error → List ℕ → Type 0
 Writes taken failed old new r bytes =
-    MatchResult r (λ _. Appends (taken old) (taken new) bytes × (failed old ≡ false → failed new ≡ false))
+    MatchResult r (λ _. Appends (taken old) (taken new) bytes × (failed new ≡ failed old))
     (λ e. Fails taken failed old new e bytes)
 
 -- when a value is refused with each error: each comes where those before it don't; a writer's fault is no refusal

@@ -22,6 +22,8 @@ use Rattle.gix_index.specs.Version.TheVariants.{V2}
 use Rattle.index_inspect.specs.Remains.{IsPlainIndex, with_mark}
 use Rattle.index_inspect.specs.Salvage.{CanBeShared, IsCompleted, IsWanted, MergesByBitmaps, MergesOrSorts}
 use Rattle.index_inspect.specs.Salvage.{absent, merged, unfit, unlinked, unread, unshared}
+use Rattle.index_inspect.specs.declared.chosen.Keep.{Keep}
+use Rattle.index_inspect.specs.declared.chosen.Keep.TheVariants.{All}
 use Rattle.index_inspect.specs.declared.remains.Remains.{Remains}
 use Rattle.index_inspect.specs.SalvageSteps.{Completes, IsIndexOf}
 use Rattle.index_inspect.specs.declared.salvage.SharedEntries.{SharedEntries}
@@ -55,8 +57,7 @@ index_moved old new e h placed storable = record {
 
 mark_storable : (v : Contents) (sparse fit : Bool) → IsStorable v
     → IsStorable (refit (with_mark v sparse) v.records fit)
-mark_storable v sparse fit h =
-    record { ids = h.ids; paths = h.paths; fits = h.fits; tree = h.tree; resolve_undo = h.resolve_undo }
+mark_storable v sparse fit h = record { ids = h.ids; paths = h.paths; fits = h.fits; tree = h.tree }
 
 abbrev marked_as : State → Contents
 marked_as s = with_mark (with_records (empty_contents (contents s).kind (contents s).time) (records s))
@@ -183,11 +184,12 @@ merged_or_own link found shared own all fate (unfit l s v fault w e b same f) = 
 merged_or_own link found shared own all fate (merged l s v w e d f) =
     merges_or link shared l s own all w e d.alone (bitmaps_or_own l.bitmaps s v own all d.merged)
 
-pub merges_or_sorts : (r : Remains) (shared : Option Contents) (all : List Record)
-    → MergesByBitmaps (option_map link_of r.link) shared ⊎ (all ≡ records r.front) → (IsOrdered all → ⊥)
-    → MergesOrSorts r shared
-merges_or_sorts r shared all (inl merges) unordered = inl merges
-merges_or_sorts r shared all (inr same) unordered = inr (λ up. unordered (subst IsOrdered (sym same) up))
+pub merges_or_sorts : (keep : Keep) (r : Remains) (shared : Option Contents) (all : List Record)
+    → MergesByBitmaps (option_map link_of r.link) shared ⊎ (all ≡ records r.front) → keep ≡ All → (IsOrdered all → ⊥)
+    → MergesOrSorts keep r shared
+merges_or_sorts keep r shared all (inl merges) is unordered = inl merges
+merges_or_sorts keep r shared all (inr same) is unordered =
+    inr (is, λ up. unordered (subst IsOrdered (sym same) up))
 
 -- ---- with no shared index
 

@@ -12,7 +12,7 @@ use Rattle.gix_index.specs.EntryType.{Entry}
 use Rattle.gix_index.specs.Order.{record_cmp}
 use Rattle.gix_index.specs.Record.{Record, record_in, records_in}
 use Rattle.gix_index.specs.Sorted.{IsOrdered}
-use Rattle.index_inspect.specs.Salvage.{IsSavedOf, with_key_of}
+use Rattle.index_inspect.specs.Choice.{IsSavedOf, with_key_of}
 use Rattle.index_inspect.specs.SalvageSteps.{AreKept, IsAbove}
 use Rattle.index_inspect.proofs.Saving.{IsAboveLast, above_all, above_last, agrees_with_none, first_at, saved_more}
 use Rattle.index_inspect.proofs.Saving.{saved_none, saved_same}

@@ -1,13 +1,17 @@
+mod Accepting
+mod Choosing
 mod Completing
 mod Covered
 mod Divided
 mod Endings
 mod Fronts
 mod Keeping
+mod KeptEntries
 mod KeptLinks
 mod Laid
 mod LastLinks
 mod Links
+mod Looking
 mod ReadFronts
 mod OneDivision
 mod OneSpelling

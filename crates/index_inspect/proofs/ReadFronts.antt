@@ -40,7 +40,6 @@ module _ (kind : Kind) (time : FileTime) where
         paths = All-weaker (IsKept kind) (λ r. 4095 ≤ length r.path → All (λ b. b ≢ 0) r.path) (λ r k. k.path) rs kept;
         fits = All-from_recursion IsSized rs (read.fit small);
         tree = tt;
-        resolve_undo = tt;
       }
 
   pieces_storable : (bytes : List ℕ) (rs : List Record) (ps : List Piece) (f : Option Fault) → AreBytes bytes

@@ -1,6 +1,6 @@
 -- What remains of a file, by the end of its parts and the entries before it.
 use Rattle.std.proofs.Common.{◌≡◌, ℕ, true, false, List, ◌++◌, Option, sym, ap, subst, ◌∙◌, option_map}
-use Rattle.std.specs.Prelude.{IfSome, IsOk}
+use Rattle.std.specs.Prelude.{IfSome, Ok}
 use Rattle.gix_index.specs.DecodeError.{Error}
 use Rattle.gix_index.specs.Edits.{empty_contents, with_records}
 use Rattle.gix_index.specs.ExtensionValue.{IsValue}
@@ -21,7 +21,7 @@ use Rattle.index_inspect.specs.declared.remains.Remains.{Remains}
 use Rattle.index_inspect.proofs.ReadFronts.{divided_storable}
 
 pub remain_of : (kind : Kind) (bytes : List ℕ) (rs : List Record) (parts : List Part) (error : Option Error)
-    (r : Remains) → EndsDivision kind bytes rs parts error → IsOk (header_of kind bytes) → records r.front ≡ rs
+    (r : Remains) → EndsDivision kind bytes rs parts error → header_of kind bytes ≡ Ok r.version → records r.front ≡ rs
     → option_map (λ f. f.error) r.fault ≡ error → r.declared ≡ count_of bytes
     → IfSome r.fault (λ f. f.offset ≡ last_begin parts) → r.has_link ≡ has_link parts error
     → IsValue (IsLink kind) (link_content bytes parts) (option_map link_of r.link) → Remain kind bytes r

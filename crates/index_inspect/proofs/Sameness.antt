@@ -9,7 +9,7 @@ use Rattle.std.proofs.lemmas.List.{get_or-take, length-take, take_all, take_more
 use Rattle.std.proofs.lemmas.List.Elements.{All-from_get_or}
 use Rattle.gix_index.specs.Order.{IsStrictlyOrdered, record_cmp}
 use Rattle.gix_index.specs.Record.{Record}
-use Rattle.index_inspect.specs.Salvage.{IsSavedOf}
+use Rattle.index_inspect.specs.Choice.{IsSavedOf}
 use Rattle.index_inspect.proofs.Saving.{records_total, saved_more, saved_none}
 
 abbrev IsBelow : Record → Record → Type 0

@@ -1,8 +1,8 @@
 -- Indexes of records: after a sort, and of what is saved.
-use Rattle.std.proofs.Common.{◌≡◌, ◌≢◌, ℕ, ◌≤◌, List, All, length, Result, Ok, Err, true, false, refl, sym, ap, subst, ◌∙◌}
+use Rattle.std.proofs.Common.{◌≡◌, ◌≢◌, ℕ, ◌≤◌, Bool, List, All, length, Result, Ok, Err, true, false, refl, sym, ap, subst, ◌∙◌}
 use Rattle.std.specs.Prelude.{IfOk}
 use Rattle.gix_index.specs.Contents.{Contents}
-use Rattle.gix_index.specs.Edits.{empty_contents, refit, with_records}
+use Rattle.gix_index.specs.Edits.{edited, empty_contents, refit, with_records}
 use Rattle.gix_index.specs.Kind.{Kind}
 use Rattle.gix_index.specs.EntryType.{Entry}
 use Rattle.gix_index.specs.FileTime.{FileTime}
@@ -13,8 +13,8 @@ use Rattle.gix_index.specs.State.{PathsInStorage, contents, records}
 use Rattle.gix_index.specs.StateType.{State}
 use Rattle.gix_index.specs.Storable.{IsStorable}
 use Rattle.gix_index.specs.Version.TheVariants.{V2}
-use Rattle.index_inspect.specs.Salvage.{IsSavedOf}
-use Rattle.index_inspect.specs.SalvageSteps.{IsIndexOf}
+use Rattle.index_inspect.specs.Choice.{IsSavedOf}
+use Rattle.index_inspect.specs.SalvageSteps.{IsIndexOf, StaysIndex}
 use Rattle.index_inspect.proofs.Saving.{saved_hold}
 
 pub if_ok : {A E : Type 0} (r : Result A E) {P Q : A → Type 0} → ((x : A) → P x → Q x) → IfOk r P → IfOk r Q
@@ -33,6 +33,15 @@ index_sorted kind rs old new h e placed storable = record {
   storable = storable h.storable;
 }
 
+-- entries were taken out of an index
+pub index_left : (old new : State) → contents new ≡ edited (contents old) (records new)
+    → (PathsInStorage old → PathsInStorage new) → (IsStorable (contents old) → IsStorable (contents new))
+    → StaysIndex old new
+index_left old new e placed storable h =
+    let unfit : (contents new).fit ≡ false = ap (λ (c : Contents). c.fit) e in
+    index_sorted (contents old).kind (records old) old new h
+    (e ∙ ap (λ (b : Bool). refit (contents old) (records new) b) (sym unfit)) (placed h.placed) storable
+
 -- an index of what is saved of the entries of another
 pub index_saved : (old new : State) → IsIndexOf (contents old).kind (records old) old
     → IsSavedOf (records old) (records new)
@@ -50,7 +59,6 @@ index_saved old new h saved e placed = record {
         h.storable.paths saved;
     fits = saved_hold IsSized (records old) (records new) h.storable.fits saved;
     tree = tt;
-    resolve_undo = tt;
   });
 }
 
@@ -79,3 +87,8 @@ pub index_itself : (kind : Kind) (rs : List Record) (s : State) → IsIndexOf ki
     → IsIndexOf (contents s).kind (records s) s
 index_itself kind rs s h =
     subst (λ (k : Kind). IsIndexOf k (records s) s) (sym (kind_is kind rs s h)) (index_own kind rs s h)
+
+pub stays_then : (a b c : State) → StaysIndex a b → StaysIndex b c → StaysIndex a c
+stays_then a b c first second h =
+    subst (λ (k : Kind). IsIndexOf k (records c) c) (kind_is (contents a).kind (records b) b (first h))
+    (second (index_itself (contents a).kind (records b) b (first h)))

@@ -20,7 +20,7 @@ use Rattle.std.proofs.lemmas.List.Sorted.{ranks_by, sorted_far}
 use Rattle.gix_index.specs.Order.{IsStrictlyOrdered, path_cmp, record_cmp, record_stage}
 use Rattle.gix_index.specs.Record.{Record}
 use Rattle.gix_index.specs.Sorted.{IsOrdered}
-use Rattle.index_inspect.specs.Salvage.{IsFirst, IsSavedOf, with_key_of}
+use Rattle.index_inspect.specs.Choice.{IsFirst, IsSavedOf, with_key_of}
 use Rattle.index_inspect.specs.SalvageSteps.{IsAbove}
 
 pub records_total : IsTotalOrder record_cmp
@@ -293,7 +293,7 @@ long_path : (path : List ℕ) → (length path == 0) ≡ false → path ≢ []
 long_path [] e n = absurd cc
 long_path (b ∷ path) e n = absurd cc
 
-no_path : (path : List ℕ) → (length path == 0) ≡ true → path ≡ []
+pub no_path : (path : List ℕ) → (length path == 0) ≡ true → path ≡ []
 no_path [] e = refl
 no_path (b ∷ path) e = let none : suc (length path) ≡ 0 = eqb-true (suc (length path)) 0 e in absurd (omega arith)
 

@@ -6,7 +6,7 @@ use Rattle.std.proofs.lemmas.Bool.{cases_lt}
 use Rattle.std.proofs.lemmas.List.{get_or-take, length-take, take_all, take_more}
 use Rattle.std.proofs.lemmas.List.Elements.{All-from_get_or, All-nil, All-push}
 use Rattle.std.proofs.lemmas.List.Quantifiers.{all_pairs_push}
-use Rattle.gix_index.specs.Order.{record_cmp}
+use Rattle.gix_index.specs.Order.{IsStrictlyOrdered, record_cmp}
 use Rattle.gix_index.specs.Record.{Record}
 use Rattle.index_inspect.specs.Laws.{AreWhole}
 use Rattle.index_inspect.specs.SalvageSteps.{IsAbove}
@@ -19,7 +19,7 @@ whole_none = record {
 }
 
 -- all before a place are below the one there
-module _ (rs : List Record) (i : ℕ) (d : Record) (h : AreWhole (take i rs)) (lt : i < length rs) (pos : 0 < i)
+module _ (rs : List Record) (i : ℕ) (d : Record) (up : IsStrictlyOrdered (take i rs)) (lt : i < length rs) (pos : 0 < i)
     (above : record_cmp (get_or rs (i - 1) d) (get_or rs i d) ≡ Less) where
   below_at : (k : ℕ) → k < i → record_cmp (get_or rs k d) (get_or rs i d) ≡ Less
   below_at k within = by (cases_lt k (i - 1))
@@ -30,13 +30,13 @@ module _ (rs : List Record) (i : ℕ) (d : Record) (h : AreWhole (take i rs)) (l
           let inside : i - 1 < length (take i rs) = omega (arith, length-take i rs) in
           let rises : record_cmp (get_or rs k d) (get_or rs (i - 1) d) ≡ Less =
           rw (get_or-take i rs k d within) at (rw (get_or-take i rs (i - 1) d last) at
-          (h.ordered.less k (i - 1) d less inside)) in
+          (up.less k (i - 1) d less inside)) in
           records_total.trans (get_or rs k d) (get_or rs (i - 1) d) (get_or rs i d) rises above
       by (inr more) =
           let e : i - 1 ≡ k = omega arith in
           subst (λ (n : ℕ). record_cmp (get_or rs n d) (get_or rs i d) ≡ Less) e above
 
-  all_below : All (λ q. record_cmp q (get_or rs i d) ≡ Less) (take i rs)
+  pub all_below : All (λ q. record_cmp q (get_or rs i d) ≡ Less) (take i rs)
   all_below = All-from_get_or (λ q. record_cmp q (get_or rs i d) ≡ Less) (take i rs) d (λ k within.
       let inside : k < i = omega (arith, length-take i rs) in
       subst (λ (q : Record). record_cmp q (get_or rs i d) ≡ Less) (sym (get_or-take i rs k d inside))
@@ -57,7 +57,7 @@ whole_more rs i lt above h =
   where
     below : (d : Record) → (0 < i) ⊎ (i ≤ 0) → (0 < i → record_cmp (get_or rs (i - 1) d) (get_or rs i d) ≡ Less)
         → All (λ q. record_cmp q (get_or rs i d) ≡ Less) (take i rs)
-    below d (inl pos) rises = all_below rs i d h lt pos (rises pos)
+    below d (inl pos) rises = all_below rs i d h.ordered lt pos (rises pos)
     below d (inr none) rises =
         let e : i ≡ 0 = omega arith in
         subst (λ (n : ℕ). All (λ q. record_cmp q (get_or rs i d) ≡ Less) (take n rs)) (sym e)

@@ -1,3 +1,5 @@
+pub mod Accepted
+pub mod Choice
 pub mod Division
 pub mod DivisionSteps
 pub mod FrontSteps

@@ -1,7 +1,7 @@
 -- What remains of a file that may be damaged: the front of its entries, its first fault, and the link to a shared index
 -- where that stands whole (gitformat-index, "Split index", "Sparse Directory Entries").
 use Rattle.std.specs.Prelude.{◌≡◌, ℕ, ◌-◌, nat_eq, ◌||◌, Bool, true, false, List, [], ◌∷◌, length, codes, drop, take}
-use Rattle.std.specs.Prelude.{slice_get, Option, Some, None, IfSome, IsOk, Err, if◌then◌else◌}
+use Rattle.std.specs.Prelude.{slice_get, Option, Some, None, IfSome, Ok, Err, if◌then◌else◌}
 use Rattle.std.specs.Cmp.Lexicographic.{pointwise}
 use Rattle.std.specs.List.{list_any}
 use Rattle.std.specs.Option.{option_map}
@@ -97,7 +97,7 @@ pub record IsPlainIndex (s : State) : Type 0 where
 
 -- the entries that are read of a file with a header, up to its first fault, its link, and what is told of them
 pub record Remain (kind : Kind) (bytes : List ℕ) (r : Remains) : Type 0 where
-  pub header : IsOk (header_of kind bytes)
+  pub header : header_of kind bytes ≡ Ok r.version
   pub parts : List Part
   pub divides : Divides kind bytes (records r.front) parts (option_map (λ f. f.error) r.fault)
   pub declared : r.declared ≡ count_of bytes

@@ -1,41 +1,25 @@
--- What is saved of a file that may be damaged: the front of its entries, with those of its shared index where the two
--- can be merged, put in order (gitformat-index, "Split index", "Index entries are sorted in ascending order").
-use Rattle.std.specs.Prelude.{◌≡◌, ◌≢◌, ◌↔◌, Bool, true, false, List, [], ◌∷◌, Contains, length, filter}
-use Rattle.std.specs.Prelude.{Option, Some, None, IsSome, ◌⊎◌}
+-- What is saved of a file that may be damaged: of the front of its entries, with those of its shared index where the two
+-- can be merged, those that git works with (gitformat-index, "Split index", "Index entries are sorted in ascending
+-- order").
+use Rattle.std.specs.Prelude.{◌≡◌, Bool, true, false, List, length, Option, Some, None, IsSome, ◌⊎◌}
 use Rattle.std.specs.Option.{option_map}
-use Rattle.std.specs.Ordering.{is_eq}
 use Rattle.gix_index.specs.Contents.{Contents}
 use Rattle.gix_index.specs.Dissolve.{IsDissolved, IsDissolveFault}
 use Rattle.gix_index.specs.Edits.{with_records}
 use Rattle.gix_index.specs.Id.{id_bytes, is_null}
 use Rattle.gix_index.specs.Link.{LinkFault, LinkValue, link_of}
-use Rattle.gix_index.specs.Order.{IsStrictlyOrdered, record_cmp}
 use Rattle.gix_index.specs.Record.{Record}
 use Rattle.gix_index.specs.Sorted.{IsOrdered}
 use Rattle.gix_index.specs.State.{PathsInStorage, contents, records}
 use Rattle.gix_index.specs.StateType.{State}
 use Rattle.gix_index.specs.Storable.{IsStorable}
+use Rattle.index_inspect.specs.Choice.{IsKept, TellsFirst, named_of}
+use Rattle.index_inspect.specs.declared.chosen.Keep.{Keep}
+use Rattle.index_inspect.specs.declared.chosen.Keep.TheVariants.{All}
 use Rattle.index_inspect.specs.declared.remains.Remains.{Remains}
 use Rattle.index_inspect.specs.declared.salvage.Salvaged.{Salvaged}
 use Rattle.index_inspect.specs.declared.salvage.SharedEntries.{SharedEntries}
 use Rattle.index_inspect.specs.declared.salvage.SharedEntries.TheVariants as fates
-
--- ---- which entries
-
--- the entries with the path and the stage of a record, in their order
-abbrev pub with_key_of : Record → List Record → List Record
-with_key_of r rs = filter (λ q. is_eq (record_cmp r q)) rs
-
--- a record that has a path, and is the first of the entries with its path and stage
-pub record IsFirst (rs : List Record) (r : Record) : Type 0 where
-  pub named : r.path ≢ []
-  pub others : List Record
-  pub first : with_key_of r rs ≡ r ∷ others
-
--- in order by path and stage, each of the firsts once, and no other
-pub record IsSavedOf (rs kept : List Record) : Type 0 where
-  pub ordered : IsStrictlyOrdered kept
-  pub are : (r : Record) → Contains kept r ↔ IsFirst rs r
 
 -- ---- with the shared index
 
@@ -73,9 +57,10 @@ pub record MergesByBitmaps (link : Option LinkValue) (shared : Option Contents) 
   pub bitmaps : IsSome l.bitmaps
   pub alone : s.extensions.link ≡ None
 
--- entries are merged by bitmaps, or those of the file are sorted, as they aren't in order
-abbrev pub MergesOrSorts : Remains → Option Contents → Type 0
-MergesOrSorts r shared = MergesByBitmaps (option_map link_of r.link) shared ⊎ (IsOrdered (records r.front) → ⊥)
+-- entries are merged by bitmaps, or all that git works with are kept, and those of the file aren't in order
+abbrev pub MergesOrSorts : Keep → Remains → Option Contents → Type 0
+MergesOrSorts keep r shared =
+    MergesByBitmaps (option_map link_of r.link) shared ⊎ ((keep ≡ All) × (IsOrdered (records r.front) → ⊥))
 
 -- ---- what is given
 
@@ -85,11 +70,21 @@ pub record CanBeShared (split shared : State) : Type 0 where
   pub placed : PathsInStorage shared
   pub storable : IsStorable (contents shared)
 
--- what remains of a file, completed with the shared index if one is given, and saved; and what is told of that
-pub record Saves (r : Remains) (shared : Option Contents) (s : Salvaged) : Type 0 where
+-- The entries that are looked at: where those of the shared index are missing, those that have a path, as the others
+-- stand for some of them.
+abbrev pub looked_at : SharedEntries → List Record → List Record
+looked_at fates.Missing all = named_of all
+looked_at fates.Unlinked all = all
+looked_at fates.Merged all = all
+
+-- what remains of a file, completed with the shared index if one is given, and of that what is kept; and what is told
+-- of it
+pub record Saves (keep : Keep) (r : Remains) (shared : Option Contents) (s : Salvaged) : Type 0 where
   pub all : List Record
   pub completed : IsCompleted (option_map link_of r.link) r.has_link shared (records r.front) all s.shared
-  pub saved : IsSavedOf all (records s.state)
+  pub first : TellsFirst (contents r.front).kind (looked_at s.shared all) s.first
+  pub kept : IsKept keep (contents r.front).kind (looked_at s.shared all) s.first (records s.state)
+  pub version : s.version ≡ r.version
   pub declared : s.declared ≡ r.declared
   pub read : s.read ≡ length (records r.front)
   pub fault : s.fault ≡ r.fault

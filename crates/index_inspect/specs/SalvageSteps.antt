@@ -1,5 +1,6 @@
 -- What the steps of saving entries have made (the library's own). Public clauses cite none of these.
-use Rattle.std.specs.Prelude.{◌≡◌, ◌≢◌, ◌≤◌, ◌<◌, ◌-◌, ℕ, List, [], Bool, Option, Some, All, length, take, slice_index_or}
+use Rattle.std.specs.Prelude.{◌≡◌, ◌≢◌, ◌≤◌, ◌<◌, ◌-◌, ℕ, List, [], Bool, Option, Some, None, All, length, take, slice_index_or}
+use Rattle.std.specs.List.{HoldsAt}
 use Rattle.std.specs.declared.cmp.Ordering.TheVariants.{Less}
 use Rattle.gix_index.specs.Contents.{Contents}
 use Rattle.gix_index.specs.Edits.{empty_contents, refit}
@@ -9,12 +10,14 @@ use Rattle.gix_index.specs.Kind.{Kind}
 use Rattle.gix_index.specs.Link.{LinkValue}
 use Rattle.gix_index.specs.Order.{record_cmp}
 use Rattle.gix_index.specs.Record.{IsPlaced, Record, records_in}
-use Rattle.gix_index.specs.Sorted.{IsOrdered}
+use Rattle.gix_index.specs.Sorted.{IsFall, IsOrdered}
 use Rattle.gix_index.specs.State.{PathsInStorage, contents, records}
 use Rattle.gix_index.specs.StateType.{State}
 use Rattle.gix_index.specs.Storable.{IsStorable}
 use Rattle.index_inspect.specs.Remains.{IsPlainIndex, with_mark}
-use Rattle.index_inspect.specs.Salvage.{IsCompleted, IsSavedOf}
+use Rattle.index_inspect.specs.Accepted.{record_fault}
+use Rattle.index_inspect.specs.Choice.{IsSavedOf}
+use Rattle.index_inspect.specs.Salvage.{IsCompleted}
 use Rattle.index_inspect.specs.declared.salvage.Completed.{Completed}
 
 -- an index of these entries and nothing else but a mark of a sparse one, that a file can hold
@@ -54,6 +57,10 @@ KeepPlaced storage old new = All (IsPlaced (length storage)) old → All (IsPlac
 abbrev pub IsAbove : List Record → ℕ → ℕ → Type 0
 IsAbove rs kept place = (d : Record) → ((slice_index_or rs place d).path ≢ [])
     × (0 < kept → record_cmp (slice_index_or rs (kept - 1) d) (slice_index_or rs place d) ≡ Less)
+
+-- git works with the record at a place, and it stands behind the one before it
+abbrev pub IsFitAt : Kind → List Record → ℕ → Type 0
+IsFitAt kind rs place = HoldsAt (λ r. record_fault kind r ≡ None) rs place × (IsFall rs place → ⊥)
 
 -- of the records before a place those that are saved stand first in a list, so many, and those behind stand where they
 -- stood

@@ -9,11 +9,12 @@ ghost use Rattle.gix_index.specs.Kind.{Kind};
 ghost use Rattle.gix_index.specs.Laws.{TakesAll};
 ghost use Rattle.gix_index.specs.Link.{link_of};
 ghost use Rattle.gix_index.specs.Record.{Record};
-ghost use Rattle.gix_index.specs.State.{records};
 ghost use Rattle.index_inspect.specs.Division.{IsDivided};
-ghost use Rattle.index_inspect.specs.Laws.{AreWhole, EachSaved, IsAlone, IsReadAs, IsNoIndex};
+ghost use Rattle.index_inspect.specs.Laws.{EachSaved, IsAlone, IsReadAs, IsNoIndex, KeepsAll, KeepsWhole};
 ghost use Rattle.index_map.specs.Piece.{Piece};
-ghost use Rattle.index_inspect.specs.Salvage.{IsSavedOf};
+ghost use Rattle.index_inspect.specs.Choice.{IsSavedOf};
+ghost use Rattle.index_inspect.specs.declared.chosen.Keep.{Keep};
+ghost use Rattle.index_inspect.specs.declared.chosen.Keep.TheVariants.{All};
 
 use gix_index::laws::one_reading;
 
@@ -39,17 +40,17 @@ pub fn damaged_is_unread()
         → IsDivided kind bytes rs pieces (Some fault) → IsNoIndex kind time options bytes }
 {}
 
-/// Of bytes that are read as an index the link remains that it has, and all its entries are read. Where it has no link,
-/// or no shared index is given, all of them are saved, in order by path and stage, of each the first: whatever their
-/// trailer is. Where they are in order already, each once and with a path, as git writes them where there is no link,
-/// what is saved is exactly the entries of the index. What is saved of entries is one list.
+/// Of bytes that are read as an index the link remains that it has, and all its entries are read. The rest is for an index
+/// without a link, or where no shared index is given, whatever the trailer is. Entries that git works with are saved,
+/// exactly these. Where all that git works with are to be saved, they are, in order by path and stage, of each the first.
+/// What is saved of entries is one list.
 pub fn whole_is_saved()
-    ensures link { EachSaved (λ v r shared s. option_map link_of r.link ≡ v.extensions.link) }
-    ensures read { EachSaved (λ v r shared s. s.read ≡ length v.records) }
-    ensures saved { EachSaved
-        (λ v r shared s. IsAlone v shared → IsSavedOf v.records (records s.state)) }
-    ensures same { EachSaved (λ v r shared s. IsAlone v shared → AreWhole v.records
-        → records s.state ≡ v.records) }
+    ensures link { (keep : Keep) → EachSaved keep
+        (λ v r shared s. option_map link_of r.link ≡ v.extensions.link) }
+    ensures read { (keep : Keep) → EachSaved keep (λ v r shared s. s.read ≡ length v.records) }
+    ensures saved { EachSaved All (λ v r shared s. IsAlone v shared → KeepsAll v r s) }
+    ensures same { (keep : Keep) → EachSaved keep
+        (λ v r shared s. IsAlone v shared → KeepsWhole v r s) }
     ensures one { (rs ks ls : List Record) → IsSavedOf rs ks → IsSavedOf rs ls → ks ≡ ls }
 {
     one_reading();

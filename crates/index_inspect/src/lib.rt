@@ -3,6 +3,8 @@
 //! [`divide`] tells which bytes of a file are what, up to the first fault, and [`remains_of`] what can be saved of it.
 #![tactic(auto)]
 
+pub mod accepted;
+pub mod chosen;
 pub mod division;
 mod front;
 mod items;
@@ -10,6 +12,8 @@ pub mod laws;
 pub mod remains;
 pub mod salvage;
 
+pub use accepted::{EntryFault, entry_fault};
+pub use chosen::{FirstUnfit, Keep, Unfit};
 pub use division::{Division, divide};
 pub use remains::{Remains, remains_of};
 pub use salvage::{Salvaged, SharedEntries};

@@ -59,6 +59,8 @@ pub struct Remains {
     /// The entries that can be read, from the first on, in the order of the file: an index without extensions, but for
     /// the mark of a sparse one where an entry stands for a directory.
     pub front: State,
+    /// The version of the file.
+    pub version: Version,
     /// How many entries the file declares.
     pub declared: u32,
     /// The first fault, if the file has one.
@@ -232,6 +234,7 @@ pub fn remains_of(alloc: Global, kind: Kind, bytes: &[u8]) -> Result<Remains, Er
     let fault = first_fault(&parts, fault);
     Ok(Remains {
         front,
+        version,
         declared,
         fault,
         has_link,

@@ -6,11 +6,14 @@ ghost use Rattle.gix_index.specs.Id.{id_bytes, is_null};
 ghost use Rattle.gix_index.specs.Link.{link_of};
 ghost use Rattle.gix_index.specs.Sorted.{IsOrdered};
 ghost use Rattle.gix_index.specs.State.{contents, records};
+ghost use Rattle.index_inspect.specs.Accepted.{AreAcceptable};
 ghost use Rattle.index_inspect.specs.Laws.{AreWhole};
 ghost use Rattle.index_inspect.specs.Remains.{IsPlainIndex};
-ghost use Rattle.index_inspect.specs.Salvage.{CanBeShared, IsSavedOf, MergesByBitmaps, MergesOrSorts, Saves};
+ghost use Rattle.index_inspect.specs.Choice.{IsSavedOf};
+ghost use Rattle.index_inspect.specs.Salvage.{CanBeShared, MergesByBitmaps, MergesOrSorts, Saves, looked_at};
 ghost use Rattle.index_inspect.specs.SalvageSteps.{Completes, CompletesWith, IsAbove, KeepPlaced, LeavesFirsts, StaysIndex};
 
+use crate::chosen::{FirstUnfit, Keep, chosen, first_unfit, keep_named};
 use crate::remains::{FirstFault, Remains, marked};
 use gix_index::decode::entry::EntrySlice;
 use gix_index::extension::{Link, link};
@@ -36,10 +39,15 @@ pub struct Salvaged {
     /// The entries that are saved, as an index without extensions, but for the mark of a sparse one where an entry
     /// stands for a directory.
     pub state: State,
+    /// The version of the file.
+    pub version: Version,
     /// How many entries the file declares.
     pub declared: u32,
     /// How many of them were read, from the first on.
     pub read: usize,
+    /// The first entry that is at fault, among those that were read, merged with those of the shared index where these are
+    /// there. Where these are missing, the entries without a path aren't looked at.
+    pub first: Option<FirstUnfit>,
     /// The first fault, if the file has one.
     pub fault: Option<FirstFault>,
     /// Whether the entries of the shared index are there too.
@@ -196,7 +204,7 @@ fn are_whole(entries: &EntrySlice<'_>) -> bool
 
 /// An index of what is saved of the entries of another: that one itself, where none is left out. Memory is asked for
 /// where the entries aren't in order.
-fn saved(mut state: State) -> Result<State, AllocError>
+pub(crate) fn saved(mut state: State) -> Result<State, AllocError>
     ensures saved { IfOk result (λ s. IsSavedOf (records state) (records s)) }
     ensures index { IfOk result (StaysIndex state) }
     ensures memory { IfErr result (λ _. IsOrdered (records state) → ⊥) }
@@ -208,43 +216,77 @@ fn saved(mut state: State) -> Result<State, AllocError>
     Ok(firsts(state))
 }
 
+/// An index of those entries of another that are looked at: where those of the shared index are missing, those that have
+/// a path.
+fn looked_at(shared: SharedEntries, mut state: State) -> State
+    ensures records { records result ≡ looked_at shared (records state) }
+    ensures index { StaysIndex state result }
+{
+    match shared {
+        SharedEntries::Missing => {
+            keep_named(&mut state);
+            state
+        }
+        SharedEntries::Unlinked => state,
+        SharedEntries::Merged => state,
+    }
+}
+
 impl Remains {
     /// Saves what remains of a file, with the entries of its shared index if that is given: the index whose trailer is
     /// the id that [`Remains::shared_index`] names.
     ///
     /// Where the link wants one, it is given, and it fits the entries of the file, they are merged, as
     /// [`Link::dissolve_into`] says. Else only the file's own entries are saved, of which those that replace others
-    /// have no path. They are put in order by path and stage, as a file has them. Of those that agree in both the
-    /// first is kept, and those that have no path are left out. Extensions are left out too: git makes them anew. But
-    /// the mark of a sparse index is there where an entry stands for a directory (gitformat-index, "Sparse Directory
-    /// Entries"). The state can be written, and read again: its smallest version has all paths.
+    /// have no path, and are left out. git works with all that are saved, as [`entry_fault`](crate::entry_fault) says,
+    /// and path and stage strictly increase. Kept are those before the first that is at fault, or all that are fit, as
+    /// [`Keep`] says. Extensions are left out: git makes them anew. But the mark of a sparse index is there where an
+    /// entry stands for a directory (gitformat-index, "Sparse Directory Entries"). The state can be written, and read
+    /// again: its smallest version has all paths, and so has version 4.
     ///
-    /// An error is want of memory. Memory is asked for where entries are merged by the link's bitmaps, or the file's
-    /// own aren't in order and are sorted, and nowhere else. Time goes with n log n for n entries.
-    pub fn save(self, alloc: Global, shared: Option<State>) -> Result<Salvaged, AllocError>
+    /// An error is want of memory. Memory is asked for where entries are merged by the link's bitmaps, or all that are
+    /// fit are kept and the file's own aren't in order, and nowhere else. Time goes with n log n for n entries.
+    pub fn save(
+        self,
+        alloc: Global,
+        keep: Keep,
+        shared: Option<State>,
+    ) -> Result<Salvaged, AllocError>
         requires plain { IsPlainIndex self.front }
         requires shared { IfSome shared (CanBeShared self.front) }
-        ensures saved { IfOk result (Saves self (option_map contents shared)) }
+        ensures saved { IfOk result (Saves keep self (option_map contents shared)) }
+        ensures acceptable { IfOk result
+            (λ s. AreAcceptable (contents self.front).kind (records s.state)) }
         ensures kind { IfOk result
             (λ s. (contents s.state).kind ≡ (contents self.front).kind) }
         ensures plain { IfOk result (λ s. IsPlainIndex s.state) }
-        ensures memory { IfErr result (λ _. MergesOrSorts self (option_map contents shared)) }
+        ensures memory { IfErr result
+            (λ _. MergesOrSorts keep self (option_map contents shared)) }
     {
         let Remains {
             front,
+            version,
             declared,
             fault,
             has_link,
             link,
         } = self;
+        let kind = front.object_hash();
         let read = front.entries().len();
         let Completed { state, shared } = with_shared(alloc, link, has_link, front, shared)?;
-        let state = saved(state)?;
+        let state = looked_at(shared, state);
+        let first = first_unfit(
+            kind,
+            &EntrySlice::new(state.entries(), state.path_backing()),
+        );
+        let state = chosen(keep, kind, &first, state)?;
         let state = marked(state);
         Ok(Salvaged {
             state,
+            version,
             declared,
             read,
+            first,
             fault,
             shared,
         })

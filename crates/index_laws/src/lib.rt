@@ -85,8 +85,8 @@ pub fn kept_loses_nothing()
     ensures { KeptLosesNothing }
 {}
 
-/// What was read of an untracked cache can be spelled, where none of its untracked names is empty, and so can what a file
-/// system monitor said, as both have to be where they are kept. All else is asked for where an index is storable.
+/// What was read of resolve-undo can be spelled, and so can an untracked cache, where none of its untracked names is
+/// empty, and what a file system monitor said: as all three have to be where they are kept.
 pub fn read_extensions_are_keepable()
     ensures { ReadIsKeepable }
 {}

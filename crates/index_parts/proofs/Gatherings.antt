@@ -14,7 +14,7 @@ use Rattle.index_parts.proofs.Taking.{Took-nil, Took-trans}
 -- a writer that was given nothing yet, and all that is held
 pub gathers_held : {S : Type 0} (w : Ghosts S) (a : S) (xs ys : List ℕ) → ys ≡ xs → Gathers w a a xs ys
 gathers_held w a xs ys e =
-    record { gone = []; took = Took-nil w.taken w.hashed a; parts = e; failed = λ f. f; loan = refl }
+    record { gone = []; took = Took-nil w.taken w.hashed a; parts = e; failed = refl; loan = refl }
 
 -- all went out, and nothing is held
 pub gathers_none : {S T E : Type 0} {w : Ghosts S} {a b : S} {xs : List ℕ} (r : Result T E) (held : List ℕ) → held ≡ []
@@ -45,7 +45,7 @@ gathers_more {held = held} {xs = xs} {next = next} ys e p q = record {
   took = Took-trans p.took q.took;
   parts = sym e ∙ ap (λ (l : List ℕ). l ++ ys) p.parts ∙ append_assoc p.gone held ys
       ∙ ap (λ (l : List ℕ). p.gone ++ l) q.parts ∙ sym (append_assoc p.gone q.gone next);
-  failed = λ f. q.failed (p.failed f);
+  failed = q.failed ∙ p.failed;
   loan = q.loan ∙ p.loan;
 }
 
@@ -63,4 +63,4 @@ puts_stopped_held r {held = held} ys rest h whole p q =
     let parts : (p.gone ++ (held ++ ys)) ++ rest ≡ _ =
     ap (λ (l : List ℕ). l ++ rest) (sym (append_assoc p.gone held ys) ∙ ap (λ (l : List ℕ). l ++ ys) (sym p.parts))
     ∙ whole in
-    puts_stopped_after r rest h parts p.took p.failed p.loan q
+    puts_stopped_after r rest h parts p.took p.loan q

@@ -17,5 +17,5 @@ pub record Gathers {S : Type 0} (writer : Ghosts S) (old new : S) (held bytes : 
   pub gone : List ℕ
   pub took : Took writer.taken writer.hashed old new gone
   pub parts : bytes ≡ gone ++ held
-  pub failed : writer.failed old ≡ false → writer.failed new ≡ false
+  pub failed : writer.failed new ≡ writer.failed old
   pub loan : writer.loan new ≡ writer.loan old

@@ -64,7 +64,8 @@ impl Block {
     }
 }
 
-/// A piece is taken whole, or not at all where there is no room for it, with [`ErrorKind::WriteZero`].
+/// A piece is taken whole, or not at all where there is no room for it, with [`ErrorKind::WriteZero`]. The block has
+/// failed from then on, until it is cut by [`Block::cut_to`].
 impl Out for Block {
     ghost taken = { λ b. Some b.bytes };
 
@@ -78,7 +79,6 @@ impl Out for Block {
         let end = self.len + piece.len();
         self.bytes[self.len..end].copy_from_slice(piece);
         self.len = end;
-        self.is_full = false;
         Ok(())
     }
 

@@ -31,5 +31,4 @@ flags_storable v rs h keeps = record {
       })
       h.fits;
   tree = h.tree;
-  resolve_undo = h.resolve_undo;
 }

@@ -14,7 +14,6 @@ use Rattle.index_merge.proofs.Merged.{all_merged}
 use Rattle.index_split.specs.Link.{BitmapPair, LinkValue}
 use Rattle.index_state.specs.Dissolve.{IsDissolved, IsMerged, MergesBy, broken, SaysDissolve}
 use Rattle.index_format.proofs.Ids.{entries_have, records_of}
-use Rattle.index_extension_writing.specs.ResolveUndoImage.{AreSpellablePaths}
 use Rattle.index_format.specs.Contents.{Contents}
 use Rattle.index_format.specs.Storable.{IsStorable}
 
@@ -53,8 +52,6 @@ module _ (b : BitmapPair) (shared old new : Contents) (m : IsMerged b shared old
         paths = merged_have HasLegalPath (λ r s p q. p) mine.paths theirs.paths;
         fits = merged_have IsSized sized_replaced mine.fits theirs.fits;
         tree = subst (λ (v : Contents). IfSome v.extensions.tree (IsStorableTree v.kind)) (sym m.others) mine.tree;
-        resolve_undo = subst (λ (v : Contents). IfSome v.extensions.resolve_undo (AreSpellablePaths v.kind))
-            (sym m.others) mine.resolve_undo;
       }
 
 -- entries that were merged have ids of the kind that all had

@@ -94,7 +94,6 @@ smudged_storable time v h = record {
   fits = all_mapped IsSized IsSized (smudged time)
       (λ r p. sized_so (is_smudged time r.mode r.stat) r p) v.records h.fits;
   tree = h.tree;
-  resolve_undo = h.resolve_undo;
 }
 
 pub smudged_placed : (time : FileTime) (len : ℕ) (es : List Entry) → All (IsPlaced len) es

@@ -16,7 +16,6 @@ use Rattle.index_entries.specs.Storable.{IsStorableIn}
 use Rattle.index_cached_tree.specs.StoredTree.{IsStorableTree}
 use Rattle.index_tree_reader.proofs.Fits.{FitsFile}
 use Rattle.index_state.specs.Edits.{edited, empty_contents, refit, with_record, with_records}
-use Rattle.index_extension_writing.specs.ResolveUndoImage.{AreSpellablePaths}
 use Rattle.index_format.specs.Contents.{Contents}
 use Rattle.index_format.specs.Storable.{IsStorable}
 
@@ -29,7 +28,6 @@ empty_storable kind time = record {
   paths = All-nil HasLegalPath;
   fits = All-nil IsSized;
   tree = tt;
-  resolve_undo = tt;
 }
 
 pub push_storable : (v : Contents) (r : Record) → IsStorable v → id_kind r.id ≡ v.kind
@@ -40,7 +38,6 @@ push_storable v r h id path fits = record {
       All-push HasLegalPath v.records r h.paths path;
   fits = All-push IsSized v.records r h.fits fits;
   tree = h.tree;
-  resolve_undo = h.resolve_undo;
 }
 
 -- other records in place of the value's, where what holds of each of those holds of each of these
@@ -51,7 +48,6 @@ keeps_storable v rs fit h keeps = record {
   paths = keeps HasLegalPath h.paths;
   fits = keeps IsSized h.fits;
   tree = h.tree;
-  resolve_undo = h.resolve_undo;
 }
 
 pub permuted_storable : (v : Contents) (rs : List Record) (fit : Bool) → IsPermutation v.records rs → IsStorable v
@@ -81,21 +77,18 @@ fitting_storable kind time rs h = record {
   paths = All-weaker (FitsFile kind) HasLegalPath (λ r f long. f.path) rs h;
   fits = All-weaker (FitsFile kind) IsSized (λ r f. f.sized) rs h;
   tree = tt;
-  resolve_undo = tt;
 }
 
 -- ---- what is looked at
 
--- the records are storable one by one, and so are the tree and resolve-undo
+-- the records are storable one by one, and so is the tree
 pub parts_storable : (v : Contents) → All (IsStorableIn v.kind) v.records
-    → IfSome v.extensions.tree (IsStorableTree v.kind)
-    → IfSome v.extensions.resolve_undo (AreSpellablePaths v.kind) → IsStorable v
-parts_storable v all tree undo = record {
+    → IfSome v.extensions.tree (IsStorableTree v.kind) → IsStorable v
+parts_storable v all tree = record {
   ids = All-weaker (IsStorableIn v.kind) (λ r. id_kind r.id ≡ v.kind) (λ r h. h.id) v.records all;
   paths = All-weaker (IsStorableIn v.kind) HasLegalPath (λ r h. h.plain) v.records all;
   fits = All-weaker (IsStorableIn v.kind) IsSized (λ r h. h.fits) v.records all;
   tree = tree;
-  resolve_undo = undo;
 }
 
 pub each_storable : (v : Contents) → IsStorable v → All (IsStorableIn v.kind) v.records

@@ -25,5 +25,5 @@ abbrev pub Resolves : Check → Pathless → Bor (List ℕ) → State → State 
 Resolves refusal entry path old new r = ResolvesParts refusal entry path old.parts new.parts r
 
 -- the entries at a path are taken out, and told how many there were
-abbrev pub Unstages : {E : Type 0} → Bor (List ℕ) → State → State → Result ℕ E → Type 0
+abbrev pub Unstages : Bor (List ℕ) → State → State → Result ℕ Error → Type 0
 Unstages path old new r = UnstagesParts path old.parts new.parts r

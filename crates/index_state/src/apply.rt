@@ -19,7 +19,8 @@ impl State {
     /// since; it goes where it isn't of the entries. Whether the extensions fit stays as it was. Where a file can hold
     /// the state, and one of any version, as no path has a NUL, so it is afterwards.
     ///
-    /// [`ApplyError::Refused`]: the first change that is refused, by its place. [`ApplyError::Memory`] is want of it.
+    /// [`ApplyError::Refused`]: the first change that is refused by itself, by its place; or else the first whose path
+    /// lies in a directory that a sparse index has as one entry. [`ApplyError::Memory`] is want of it.
     /// After an error the state is as it was. It is promised over entries that strictly increase by path, then stage,
     /// and whose paths lie in the storage ([`paths_in_storage`](State::paths_in_storage)); over others the changed list
     /// is in no order that is told.

@@ -1,13 +1,18 @@
 -- What holds of changes that rows say, and why they make nothing.
-use Rattle.std.proofs.Common.{◌≡◌, ℕ, List, Option, Some, None, Err, false, inl, refl, ap, sym}
+use Rattle.std.proofs.Common.{◌≡◌, ◌∙◌, ℕ, List, Option, Some, None, Ok, Err, false, inl, refl, ap, sym}
+use Rattle.std.specs.Option.{option_or}
 use Rattle.gix_index.specs.Changing.ApplyError.{ApplyError}
 use Rattle.gix_index.specs.Changing.ApplyError.TheVariants as applies
+use Rattle.gix_index.specs.Changing.Change.{Change}
 use Rattle.gix_index.specs.Changing.Changes.{IsApplyReason}
 use Rattle.gix_index.specs.Changing.Error.{Error}
+use Rattle.gix_index.specs.Changing.Wholes.{SaysRefusalAmong, first_in_whole, refusal_among, whole_refusal}
 use Rattle.gix_index.specs.Contents.{Contents}
 use Rattle.gix_index.specs.Kind.{Kind}
+use Rattle.gix_index.specs.Order.{IsStrictlyOrdered}
 use Rattle.gix_index.specs.OrderError.{Error as OrderError}
 use Rattle.gix_index.specs.OrderError.TheVariants as orders
+use Rattle.gix_index.specs.Record.{Record}
 use Rattle.gix_index.specs.SoundState.{SaysFall}
 use Rattle.index_table.specs.Joining.{AreReadSo}
 use Rattle.index_table.specs.Refusing.{IsUnmade, MakesNothing, order_told}
@@ -24,6 +29,22 @@ pub refusal_is : (r : Option ApplyError) (at : ℕ) (cause : Error) → IsApplyR
     → r ≡ Some (applies.Refused at cause)
 refusal_is None at cause h = absurd cc
 refusal_is (Some e) at cause h = ap (λ (x : ApplyError). Some x) (sym h)
+
+module _ (refusal : Option ApplyError) (cs : List Change) (rs : List Record) (o : IsStrictlyOrdered rs) where
+  first : (place : Option ℕ) → (IsStrictlyOrdered rs → place ≡ first_in_whole cs rs)
+      → refusal_among refusal cs rs ≡ option_or refusal (whole_refusal place)
+  first place h = ap (λ (p : Option ℕ). option_or refusal (whole_refusal p)) (sym (h o))
+
+  module _ {T : Type 0} where
+    -- among records in order, changes that are made are granted
+    pub granted_among : (t : T) → SaysRefusalAmong refusal cs rs (Ok t) → refusal_among refusal cs rs ≡ None
+    granted_among t h = first h.place h.exactly ∙ h.reason
+
+    -- and a refusal is the first
+    pub refused_among : (at : ℕ) (cause : Error)
+        → SaysRefusalAmong {T = T} refusal cs rs (Err (applies.Refused at cause))
+        → refusal_among refusal cs rs ≡ Some (applies.Refused at cause)
+    refused_among at cause h = first h.place h.exactly ∙ refusal_is _ at cause h.reason
 
 module _ (kind : Kind) (paths : List ℕ) (rows : List Row) (v : Contents) where
   pub fallen : (e : OrderError) → SaysFall v.records e → MakesNothing kind paths rows v (order_told e)

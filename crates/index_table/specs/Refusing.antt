@@ -4,6 +4,7 @@ use Rattle.std.specs.Prelude.{◌≡◌, ◌⊎◌, ℕ, false, List, All, Some,
 use Rattle.gix_index.specs.Changing.ApplyError.TheVariants.{Refused}
 use Rattle.gix_index.specs.Changing.Change.{Change}
 use Rattle.gix_index.specs.Changing.Changes.{refusal_of}
+use Rattle.gix_index.specs.Changing.Wholes.{refusal_among}
 use Rattle.gix_index.specs.Changing.Error.{Error}
 use Rattle.gix_index.specs.Changing.Error.TheVariants as errors
 use Rattle.gix_index.specs.Contents.{Contents}
@@ -35,9 +36,10 @@ change_fault at (errors.Nul place) = faults.Row at
 change_fault at (errors.Mode mode) = faults.Mode at
 change_fault at (errors.OtherKind expected actual) = faults.Row at
 change_fault at errors.NullId = faults.Row at
-change_fault at errors.NoSlash = faults.Row at
+change_fault at errors.WholeDirectory = faults.Row at
 change_fault at errors.EmptyName = faults.Name at
 change_fault at (errors.Name number) = faults.Name at
+change_fault at errors.InWholeDirectory = faults.Below at
 change_fault at (errors.PathTooLong len) = faults.Row at
 change_fault at errors.Memory = faults.Row at
 
@@ -63,7 +65,7 @@ pub record HasRefusedChange (kind : Kind) (paths : List ℕ) (rows : List Row) (
   pub room : ℕ
   pub at : ℕ
   pub cause : Error
-  pub first : refusal_of names.refusal_of v.kind room changes ≡ Some (Refused at cause)
+  pub first : refusal_among (refusal_of names.refusal_of v.kind room changes) changes v.records ≡ Some (Refused at cause)
   pub fault_is : fault ≡ change_fault at cause
 
 -- the first fault by which the rows make nothing of a value

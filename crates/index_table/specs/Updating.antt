@@ -4,6 +4,7 @@ use Rattle.std.specs.Prelude.{◌≡◌, ℕ, false, List, All, map, Some, None,
 use Rattle.gix_index.specs.Changing.Change.{Change}
 use Rattle.gix_index.specs.Changing.Changes.{IsAppliedTo, refusal_of}
 use Rattle.gix_index.specs.Changing.Updates.{updated}
+use Rattle.gix_index.specs.Changing.Wholes.{refusal_among}
 use Rattle.gix_index.specs.Contents.{Contents}
 use Rattle.gix_index.specs.EntryImage.{is_removed}
 use Rattle.gix_index.specs.Kind.{Kind}
@@ -56,7 +57,7 @@ pub record IsChangedBy (kind : Kind) (paths : List ℕ) (rows : List Row) (befor
   pub changes : List Change
   pub said : AreSaidBy paths rows changes
   pub room : ℕ
-  pub granted : refusal_of names.refusal_of before.kind room changes ≡ None
+  pub granted : refusal_among (refusal_of names.refusal_of before.kind room changes) changes before.records ≡ None
   pub is : value ≡ updated changes before
   pub applied : IsAppliedTo changes before.records value.records
 

@@ -79,6 +79,7 @@ fn change_fault(at: usize, cause: &ChangeError) -> Fault
     match cause {
         ChangeError::Mode { .. } => Fault::Mode(at),
         ChangeError::EmptyName | ChangeError::Name { .. } => Fault::Name(at),
+        ChangeError::InWholeDirectory => Fault::Below(at),
         _ => Fault::Row(at),
     }
 }

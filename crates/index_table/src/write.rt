@@ -48,7 +48,8 @@ pub enum Fault {
     /// The row at this place is in conflict. Only trees tell so.
     Unmerged(usize),
     /// The path of the row at this place lies below that of another, as if that were a directory, or in a directory for
-    /// which another row stands whole. Only trees tell so.
+    /// which another row stands whole. Only trees and changes tell so; a change's path lies in a directory that the index
+    /// has as one entry.
     Below(usize),
     /// There are more rows than the 4294967295 entries that a file can count, or the 2147483647 of trees.
     Count,

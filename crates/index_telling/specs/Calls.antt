@@ -12,6 +12,7 @@ use Rattle.gix_index.specs.State.{PathsInStorage, contents}
 use Rattle.gix_index.specs.StateType.{State}
 use Rattle.gix_index.specs.Storable.{IsStorable}
 use Rattle.index_inspect.specs.Remains.{IsPlainIndex, Remain}
+use Rattle.index_inspect.specs.declared.chosen.Keep.{Keep}
 use Rattle.index_inspect.specs.declared.remains.Remains.{Remains}
 use Rattle.index_inspect.specs.declared.salvage.Salvaged.{Salvaged}
 use Rattle.gix_index.specs.OnDisk.FolderTrait.{Ghosts}
@@ -55,23 +56,23 @@ pub record GivesRemains (wanted : Kind) (bytes path : List ℕ) (answer : Result
       → IfErr answer (FailsReading (SaysOfSaving works world wanted path) path)
 
 -- what is saved of these bytes, and of the shared index beside the file at a path; or why nothing is, likewise
-pub record SavesBytes {S F M : Type 0} (folder : Ghosts S F M) (now : S) (kind : Kind) (bytes path : List ℕ)
-    (answer : Result Salvaged Failure) : Type 0 where
-  pub saved : IfOk answer (IsOfBytes (disk_at (folder.known now) path).shared kind bytes)
+pub record SavesBytes {S F M : Type 0} (folder : Ghosts S F M) (now : S) (keep : Keep) (kind : Kind)
+    (bytes path : List ℕ) (answer : Result Salvaged Failure) : Type 0 where
+  pub saved : IfOk answer (IsOfBytes keep (disk_at (folder.known now) path).shared kind bytes)
   pub fault : (works : Bool) (world : World) → MayHave (world path) bytes
       → IfErr answer (FailsReading (SaysOfSaving works world kind path) path)
 
 -- what is saved of the file at a path, and when it was changed last; or why nothing is
-pub record SavesFile {S F M : Type 0} (folder : Ghosts S F M) (now : S) (kind : Kind) (path : List ℕ)
+pub record SavesFile {S F M : Type 0} (folder : Ghosts S F M) (now : S) (keep : Keep) (kind : Kind) (path : List ℕ)
     (answer : Result (Salvaged × FileTime) Failure) : Type 0 where
   pub saved : IfOk answer (λ x. (bytes : List ℕ) × MayHave (folder.known now path) bytes
-      × IsOfBytes (disk_at (folder.known now) path).shared kind bytes x.0)
+      × IsOfBytes keep (disk_at (folder.known now) path).shared kind bytes x.0)
   pub since : IfOk answer (λ x. MayBe (folder.known now path) (λ file. x.1 ≡ file.time))
   pub fault : IfErr answer (FailsReading (SaysOfSaving (folder.works now) (folder.known now) kind path) path)
 
 -- it is written to another path, and reported; or why it isn't
-abbrev pub SalvagesFile : {S F M : Type 0} → Ghosts S F M → S → S → Kind → List ℕ → List ℕ → Result Report Failure
+abbrev pub SalvagesFile : {S F M : Type 0} → Bool → Ghosts S F M → S → S → Kind → List ℕ → List ℕ → Result Report Failure
     → Type 0
-SalvagesFile folder old new kind path to answer = EndsStoring folder old new to
-    (Salvages (folder.alone old) (folder.guards old) kind (folder.known old) (folder.known new) path to)
+SalvagesFile all folder old new kind path to answer = EndsStoring folder old new to
+    (Salvages all (folder.alone old) (folder.guards old) kind (folder.known old) (folder.known new) path to)
     (FailsToSalvage (folder.works old) (folder.guards old) kind (folder.known old) path to) answer

@@ -1,11 +1,11 @@
 -- The map of a file that the program prints, and the picture that it draws (the program's own).
-use Rattle.std.specs.Prelude.{◌≡◌, ℕ, List, Option, Some, None, Result}
+use Rattle.std.specs.Prelude.{◌≡◌, ◌⊎◌, ℕ, Bool, List, Option, Some, None, Result}
 use Rattle.gix_index.specs.DecodeError.{Error}
 use Rattle.gix_index.specs.Disk.{MayHave}
 use Rattle.gix_index.specs.Hashing.Out.{Ghosts as Output}
 use Rattle.gix_index.specs.Kind.{Kind}
 use Rattle.gix_index.specs.Record.{Record}
-use Rattle.gix_index.specs.Disk.World.{Known}
+use Rattle.gix_index.specs.Disk.World.{Known, World}
 use Rattle.index_inspect.specs.Division.{Divides}
 use Rattle.index_map.specs.Lines.{map_lines}
 use Rattle.index_inspect.specs.Remains.{last_begin}
@@ -14,6 +14,7 @@ use Rattle.index_map.specs.declared.part.Part.{Part}
 use Rattle.index_picture.specs.Picture.{picture_text}
 use Rattle.gix_index.specs.OnDisk.FolderTrait.{Ghosts as Folder}
 use Rattle.index_failures.specs.declared.failure.Failure.{Failure}
+use Rattle.index_failures.specs.Nuls.{AreShown, IsOfNul}
 use Rattle.index_failures.specs.Reading.{FailsReading, SaysOfBytes}
 use Rattle.index_failures.specs.Telling.{EndsTelling}
 
@@ -32,26 +33,43 @@ abbrev pub IsOfDamaged : (List Record → List Part → List ℕ) → Known → 
 IsOfDamaged text known kind offset e told =
     (is : IsOfParts text (Some e) known kind told) × (offset ≡ last_begin is.parts)
 
--- the map, in a style, and the picture of a file with this first fault, or none
+-- the map, in a style that shows the paths, and the picture of a file with this first fault, or none
 abbrev pub IsMap : Lines → Option Error → Known → Kind → List ℕ → Type 0
-IsMap style fault known kind text = IsOfParts (map_lines style) fault known kind text
+IsMap style fault known kind text =
+    (is : IsOfParts (map_lines style) fault known kind text) × AreShown style is.records
 
 abbrev pub IsPicture : Option Error → Known → Kind → List ℕ → Type 0
 IsPicture fault known kind text = IsOfParts picture_text fault known kind text
 
 -- the same of a file with this one, which stands there
 abbrev pub IsDamagedMap : Lines → Known → Kind → ℕ → Error → List ℕ → Type 0
-IsDamagedMap style known kind offset e text = IsOfDamaged (map_lines style) known kind offset e text
+IsDamagedMap style known kind offset e text =
+    (is : IsOfDamaged (map_lines style) known kind offset e text) × AreShown style is.0.records
 
 abbrev pub IsDamagedPicture : Known → Kind → ℕ → Error → List ℕ → Type 0
 IsDamagedPicture known kind offset e text = IsOfDamaged picture_text known kind offset e text
+
+-- a failure of a file of which the style doesn't show a path
+pub record IsOfNulIn (style : Lines) (known : Known) (kind : Kind) (path : List ℕ) (failure : Failure) : Type 0 where
+  pub bytes : List ℕ
+  pub held : MayHave known bytes
+  pub records : List Record
+  pub parts : List Part
+  pub fault : Option Error
+  pub divided : Divides kind bytes records parts fault
+  pub is : IsOfNul style records path failure
+
+-- its bytes can't be had, or not shown so
+abbrev pub FailsToMap : Lines → Bool → World → Kind → List ℕ → Failure → Type 0
+FailsToMap style works world kind path failure =
+    FailsReading (SaysOfBytes works world path) path failure ⊎ IsOfNulIn style (world path) kind path failure
 
 -- the map is told of the file at a path of a folder, or why it isn't
 abbrev pub MapsFile : {S F M T : Type 0} → Lines → Folder S F M → S → Kind → List ℕ → Output T → T → T
     → Result (Unit {0}) Failure → Type 0
 MapsFile style folder now kind path writer old new answer = EndsTelling writer old new
     (IsMap style None (folder.known now path) kind) (IsDamagedMap style (folder.known now path) kind)
-    (FailsReading (SaysOfBytes (folder.works now) (folder.known now) path) path) path answer
+    (FailsToMap style (folder.works now) (folder.known now) kind path) path answer
 
 -- and so is the picture
 abbrev pub DrawsFile : {S F M T : Type 0} → Folder S F M → S → Kind → List ℕ → Output T → T → T

@@ -1,11 +1,11 @@
 -- What the program saves of a damaged file, and of the shared index beside it (the program's own).
-use Rattle.std.specs.Prelude.{◌≡◌, ℕ, Bool, false, List, length, Option, Some, None, IsSomeAnd, Ok, Err}
+use Rattle.std.specs.Prelude.{◌≡◌, ℕ, Bool, true, false, List, length, Option, Some, None, IsSomeAnd, Ok, Err}
 use Rattle.std.specs.Option.{option_map}
 use Rattle.gix_index.specs.Checked.{IsFileAnswer}
 use Rattle.gix_index.specs.Contents.{Contents}
 use Rattle.gix_index.specs.DecodeError.TheVariants as decoding
 use Rattle.gix_index.specs.Disk.{Disk, MayHave, disk_at}
-use Rattle.gix_index.specs.Edits.{with_time}
+use Rattle.gix_index.specs.Edits.{with_time, with_version}
 use Rattle.gix_index.specs.File.{state_of}
 use Rattle.gix_index.specs.FileTime.{FileTime}
 use Rattle.gix_index.specs.Header.{header_of}
@@ -15,20 +15,22 @@ use Rattle.gix_index.specs.Link.{link_of}
 use Rattle.gix_index.specs.Linked.{expecting}
 use Rattle.gix_index.specs.ObjectId.{ObjectId}
 use Rattle.gix_index.specs.State.{contents, records}
-use Rattle.gix_index.specs.VersionChoice.TheVariants.{Smallest}
 use Rattle.gix_index.specs.Disk.World.{Known, MayBe, World}
 use Rattle.gix_index.specs.declared.file.File.{File}
 use Rattle.gix_index.specs.FileFaults.{IsOfFile}
 use Rattle.gix_index.specs.FileFaults.ReadError.{Error as ReadFault}
 use Rattle.gix_index.specs.FileFaults.ReadError.TheVariants as reads
+use Rattle.index_inspect.specs.Accepted.{AreAcceptable}
 use Rattle.index_inspect.specs.Remains.{IsPlainIndex, Remain, wanted_id}
 use Rattle.index_inspect.specs.Salvage.{Saves}
+use Rattle.index_inspect.specs.declared.chosen.Keep.{Keep}
+use Rattle.index_inspect.specs.declared.chosen.Keep.TheVariants.{All, Front}
 use Rattle.index_inspect.specs.declared.remains.Remains.{Remains}
 use Rattle.index_inspect.specs.declared.salvage.Salvaged.{Salvaged}
 use Rattle.index_telling.specs.declared.salvage.Report.{Report}
 use Rattle.index_failures.specs.declared.failure.Failure.{Failure}
 use Rattle.index_failures.specs.Reading.{FailsReading}
-use Rattle.index_failures.specs.Options.{IsBeginOf1970, rewrite_options, unlimited_options}
+use Rattle.index_failures.specs.Options.{IsBeginOf1970, options_as_read, unlimited_options}
 use Rattle.index_failures.specs.Storing.{FailsStoring, IsReplaced}
 
 -- A file's bytes are read as the value, with a trailer that has to be this id unless it is null: their digest is compared,
@@ -46,14 +48,21 @@ abbrev pub IsBeside : (ObjectId → Known) → Kind → Option ObjectId → Opti
 IsBeside shared kind wanted None = Unit {0}
 IsBeside shared kind wanted (Some value) = IsSomeAnd wanted (λ id. IsSharedIn (shared id) kind id value)
 
+-- all that is well formed is kept, or what stands before the first entry that is at fault
+abbrev pub keep_of : Bool → Keep
+keep_of true = All
+keep_of false = Front
+
 -- what is saved of these bytes, completed with the shared index that their link wants if there is one, and with nothing
--- but its entries, so that a file can hold it
-pub record IsOfBytes (beside : ObjectId → Known) (kind : Kind) (bytes : List ℕ) (saved : Salvaged) : Type 0 where
+-- but its entries, so that a file can hold it, and git works with them
+pub record IsOfBytes (keep : Keep) (beside : ObjectId → Known) (kind : Kind) (bytes : List ℕ) (saved : Salvaged)
+    : Type 0 where
   pub remains : Remains
   pub remain : Remain kind bytes remains
   pub shared : Option Contents
   pub is_shared : IsBeside beside kind (wanted_id (option_map link_of remains.link)) shared
-  pub is : Saves remains shared saved
+  pub is : Saves keep remains shared saved
+  pub acceptable : AreAcceptable kind (records saved.state)
   pub plain : IsPlainIndex saved.state
 
 -- the numbers of what is saved, with the file that it was saved of
@@ -62,28 +71,33 @@ pub record Reports (path : List ℕ) (report : Report) (saved : Salvaged) : Type
   pub declared : report.counts.declared ≡ saved.declared
   pub read : report.counts.read ≡ saved.read
   pub kept : report.counts.kept ≡ length (records saved.state)
+  pub first : report.first ≡ saved.first
   pub fault : report.fault ≡ saved.fault
   pub shared : report.shared ≡ saved.shared
 
--- what is saved of a file's bytes, with the time at which it was changed last, as an index that is to be written
-pub record IsSavedOf (disk : Disk) (kind : Kind) (index : File) (saved : Salvaged) : Type 0 where
+-- what is saved of a file's bytes, with its version and the time at which it was changed last, as an index that is to be
+-- written
+pub record IsSavedOf (all : Bool) (disk : Disk) (kind : Kind) (index : File) (saved : Salvaged) : Type 0 where
   pub bytes : List ℕ
   pub time : FileTime
   pub held : MayHave disk.own bytes
   pub since : MayBe disk.own (λ file. time ≡ file.time)
-  pub of_bytes : IsOfBytes disk.shared kind bytes saved
-  pub holds : contents (state_of index) ≡ with_time (contents saved.state) time
+  pub of_bytes : IsOfBytes (keep_of all) disk.shared kind bytes saved
+  pub holds : contents (state_of index) ≡ with_version (with_time (contents saved.state) time) saved.version
 
 -- the same of the file at a path, and what is told of it
-pub record IsSalvaged (world : World) (kind : Kind) (path : List ℕ) (report : Report) (index : File) : Type 0 where
+pub record IsSalvaged (all : Bool) (world : World) (kind : Kind) (path : List ℕ) (report : Report) (index : File)
+    : Type 0 where
   pub saved : Salvaged
-  pub is_saved : IsSavedOf (disk_at world path) kind index saved
+  pub is_saved : IsSavedOf all (disk_at world path) kind index saved
   pub reports : Reports path report saved
 
--- a file was read under the lock of the file that is written, and what was saved of it was written there
-abbrev pub Salvages : Bool → Bool → Kind → World → World → List ℕ → List ℕ → Report → Type 0
-Salvages alone guards kind old new path to report = IsReplaced alone guards old new to
-    (λ world index. IsSalvaged world kind path report index) (λ index. rewrite_options Smallest)
+-- a file was read under the lock of the file that is written, and what was saved of it was written there: in version 4
+-- where the file is in that
+abbrev pub Salvages : Bool → Bool → Bool → Kind → World → World → List ℕ → List ℕ → Report → Type 0
+Salvages all alone guards kind old new path to report = IsReplaced alone guards old new to
+    (λ world index. IsSalvaged all world kind path report index)
+    (λ index. options_as_read (contents (state_of index)).version)
 
 -- The fault is why nothing is saved of the file at a path: one of the disk that names it, what keeps the header of its
 -- bytes from being read, or want of memory.

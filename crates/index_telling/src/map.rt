@@ -7,6 +7,7 @@ use gix_index::hash::Kind;
 use gix_index::hash::io::Out;
 use index_failures::failure::Failure;
 use index_failures::index::{bytes_at, out_of_memory};
+use index_failures::nul::check_paths;
 use index_inspect::divide;
 use index_inspect::remains::last_begin;
 use index_map::write_map;
@@ -18,6 +19,7 @@ use std::alloc::Global;
 /// Ok: the file can be read as an index, but for a link that isn't followed, and `out` took the whole map.
 /// [`Failure::Damaged`]: `out` took the whole map too, in which the last part is all from the first fault on, which is
 /// named with its offset. [`Failure::Output`]: it took a front. Any other failure: it took nothing.
+/// [`Failure::NulInPath`]: with `-z` alone the lines can't show a path, as it has a NUL.
 pub fn map<'a, D: Folder, W: Out>(
     folder: &D,
     alloc: Global,
@@ -32,6 +34,7 @@ pub fn map<'a, D: Folder, W: Out>(
     let Ok(division) = divide(alloc, kind, &bytes) else {
         return Err(out_of_memory(path));
     };
+    check_paths(style, &division.entries.as_slice(), path)?;
     if let Err(e) = write_map(alloc, &division.entries, &division.parts, style, out) {
         return Err(Failure::Output(e));
     }

@@ -1,21 +1,21 @@
 //! The command `salvage`.
 
-ghost use Rattle.std.specs.Prelude.{Some};
+ghost use Rattle.std.specs.Prelude.{◌≡◌, Some};
 ghost use Rattle.index_telling.specs.Calls.{GivesRemains, SalvagesFile, SavesBytes, SavesFile};
-ghost use Rattle.index_telling.specs.Report.{counts_text, fate_text, fault_place_text};
+ghost use Rattle.index_telling.specs.Report.{around_fault_text, counts_text, fate_text, fault_place_text};
+ghost use Rattle.index_telling.specs.Salvaging.{keep_of};
 
 use crate::shared::shared_beside;
 use gix_index::entry::FileTime;
 use gix_index::file::OneLine;
 use gix_index::file::folder::Folder;
 use gix_index::hash::Kind;
-use gix_index::write::VersionChoice;
 use gix_index::{File, decode, file};
 use index_failures::failure::Failure;
 use index_failures::index::{bytes_at, out_of_memory};
-use index_failures::storing::{commit_at, lock_at};
+use index_failures::storing::{commit_at, kept_as_read, lock_at};
 use index_inspect::remains::{Error, FirstFault};
-use index_inspect::{Remains, Salvaged, SharedEntries, remains_of};
+use index_inspect::{FirstUnfit, Keep, Remains, Salvaged, SharedEntries, remains_of};
 use std::alloc::Global;
 use std::fmt;
 use std::fmt::Write as _;
@@ -28,7 +28,7 @@ pub struct Counts {
     pub declared: u32,
     /// How many of them were read, from the first on.
     pub read: usize,
-    /// How many of these were kept: those that have a path, of each path and stage the first.
+    /// How many were kept, with those of a shared index that they are merged with.
     pub kept: usize,
 }
 
@@ -53,6 +53,25 @@ impl fmt::Display for FaultPlace {
 
     fn fmt<W: fmt::Write>(&self, f: &mut fmt::Formatter<W>) -> fmt::Result {
         write!(f, "; first fault at {}", self.0)
+    }
+}
+
+/// How many entries stand before the first that is at fault, and how many behind it.
+#[derive(Clone, Copy)]
+struct AroundFault {
+    before: usize,
+    behind: usize,
+}
+
+impl fmt::Display for AroundFault {
+    ghost output = { λ around. Some (around_fault_text around.before around.behind) };
+
+    fn fmt<W: fmt::Write>(&self, f: &mut fmt::Formatter<W>) -> fmt::Result {
+        write!(
+            f,
+            "; {} before the first entry at fault, {} behind it",
+            self.before, self.behind
+        )
     }
 }
 
@@ -81,6 +100,8 @@ pub struct Report<'a> {
     pub path: &'a str,
     /// How many entries it declares, and how many of them were read and kept.
     pub counts: Counts,
+    /// The first entry that is at fault, if one of those that were read is.
+    pub first: Option<FirstUnfit>,
     /// The first fault, if it has one.
     pub fault: Option<FirstFault>,
     /// Whether the entries of the shared index that it links to are there too.
@@ -90,6 +111,10 @@ pub struct Report<'a> {
 impl fmt::Display for Report<'_> {
     fn fmt<W: fmt::Write>(&self, f: &mut fmt::Formatter<W>) -> fmt::Result {
         write!(f, "{}: {}", OneLine(self.path), self.counts)?;
+        if let Some(first) = &self.first {
+            let (before, behind) = (first.before, first.behind);
+            write!(f, "{}: {}", AroundFault { before, behind }, first.fault)?;
+        }
         if let Some(fault) = &self.fault {
             write!(f, "{}: {}", FaultPlace(fault.offset), fault.error)?;
         }
@@ -116,21 +141,29 @@ fn remains_in<'a>(
     }
 }
 
+/// Which entries are kept: all that are well formed, or those before the first that is at fault.
+fn keep_of(all: bool) -> Keep
+    ensures { result ≡ keep_of all }
+{
+    if all { Keep::All } else { Keep::Front }
+}
+
 /// What can be saved of a file with these bytes, and of the shared index beside it.
 fn saved_of<'a, D: Folder>(
     folder: &D,
     alloc: Global,
+    keep: Keep,
     kind: Kind,
     path: &'a str,
     bytes: &[u8],
 ) -> Result<Salvaged, Failure<'a>>
-    ensures { SavesBytes D.Folder folder.now kind bytes.now path.now result }
+    ensures { SavesBytes D.Folder folder.now keep kind bytes.now path.now result }
 {
     let remains = remains_in(alloc, kind, path, bytes)?;
     let Ok(shared) = shared_beside(folder, alloc, kind, path, remains.shared_index()) else {
         return Err(out_of_memory(path));
     };
-    match remains.save(alloc, shared) {
+    match remains.save(alloc, keep, shared) {
         Ok(saved) => Ok(saved),
         Err(_) => Err(out_of_memory(path)),
     }
@@ -140,35 +173,38 @@ fn saved_of<'a, D: Folder>(
 fn saved_at<'a, D: Folder>(
     folder: &D,
     alloc: Global,
+    keep: Keep,
     kind: Kind,
     path: &'a str,
 ) -> Result<(Salvaged, FileTime), Failure<'a>>
-    ensures { SavesFile D.Folder folder.now kind path.now result }
+    ensures { SavesFile D.Folder folder.now keep kind path.now result }
 {
     let (bytes, time) = bytes_at(folder, alloc, path)?;
-    let saved = saved_of(folder, alloc, kind, path, &bytes)?;
+    let saved = saved_of(folder, alloc, keep, kind, path, &bytes)?;
     Ok((saved, time))
 }
 
 /// Writes what can be saved of a file to another path, or to the same, and reports what it was.
 ///
 /// The file at the other path is locked, as git locks an index, before the first is opened. What is saved is told by
-/// [`remains_of`] and [`Remains::save`]; it is written as an index without extensions, with the time at which the first
-/// was changed last, and else as [`commit_at`] says. Where a link to a shared index is read, that is looked for beside
-/// the file, and used where it can be read as an index with the link's id and fits the file. A file whose header can't
-/// be read gives nothing. [`Failure::Lock`], [`Failure::Rewrite`]: it can't be written, and what was at the path is
-/// there as before. Any other failure concerns the file that is read.
+/// [`remains_of`] and [`Remains::save`]: git works with it. Kept are the entries before the first that is at fault, or
+/// with `all` each that is well formed. It is written as an index without extensions, in version 4 where the first is
+/// in that, with the time at which the first was changed last, and else as [`commit_at`] says. Where a link to a shared
+/// index is read, that is looked for beside the file, and used where it can be read as an index with the link's id and
+/// fits the file. A file whose header can't be read gives nothing. [`Failure::Lock`], [`Failure::Rewrite`]: it can't be
+/// written, and what was at the path is there as before. Any other failure concerns the file that is read.
 pub fn salvage<'a, D: Folder>(
     folder: &mut D,
     alloc: Global,
+    all: bool,
     kind: Kind,
     path: &'a str,
     to: &'a str,
 ) -> Result<Report<'a>, Failure<'a>>
-    ensures { SalvagesFile D.Folder folder.old folder.new kind path.now to.now result }
+    ensures { SalvagesFile all D.Folder folder.old folder.new kind path.now to.now result }
 {
     let lock = lock_at(folder, alloc, to)?;
-    let (saved, time) = match saved_at(folder, alloc, kind, path) {
+    let (saved, time) = match saved_at(folder, alloc, keep_of(all), kind, path) {
         Ok(found) => found,
         Err(failure) => {
             lock.release(folder);
@@ -182,16 +218,21 @@ pub fn salvage<'a, D: Folder>(
     };
     let Salvaged {
         mut state,
+        version,
+        first,
         fault,
         shared,
         ..
     } = saved;
     state.set_timestamp(time);
+    state.set_version(version);
     let index = File::from_state(state, PathBuf::new(alloc));
-    commit_at(folder, alloc, index, lock, VersionChoice::Smallest, to)?;
+    let options = kept_as_read(version);
+    commit_at(folder, alloc, index, lock, options, to)?;
     Ok(Report {
         path,
         counts,
+        first,
         fault,
         shared,
     })

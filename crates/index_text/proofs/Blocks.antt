@@ -1,5 +1,5 @@
 -- Calls that let text out block by block, one after another.
-use Rattle.std.proofs.Common.{◌≡◌, ℕ, List, [], ◌++◌, Result, Ok, Err, true, false, refl, ap, sym, subst, ◌∙◌}
+use Rattle.std.proofs.Common.{◌≡◌, ℕ, List, [], ◌++◌, Result, Ok, Err, true, refl, ap, sym, subst, ◌∙◌}
 use Rattle.std.proofs.Common.{append-nil, append_assoc}
 use Rattle.index_parts.proofs.Taking.{Appends-nil}
 use Rattle.std.specs.Prelude.{Option}
@@ -63,7 +63,7 @@ pub none_out : {S : Type 0} {w : Ghosts S} {a : S} {waiting text : List ℕ} →
 none_out {w = w} {a = a} e = record {
   ok = ([], Appends-nil (w.taken a), e);
   err = tt;
-  going = λ f. f;
+  going = refl;
   cause = tt;
   loan = refl;
 }
@@ -86,7 +86,7 @@ pub blocks_then : {S T U : Type 0} {w : Ghosts S} {a b c : S} {x : U} (r : Resul
 blocks_then {w = w} {a = a} {b = b} {c = c} (Ok y) more p q = record {
   ok = passed_then (w.taken a) (w.taken b) (w.taken c) more p.ok q.ok;
   err = tt;
-  going = λ f. q.going (p.going f);
+  going = q.going ∙ p.going;
   cause = tt;
   loan = q.loan ∙ p.loan;
 }
@@ -94,14 +94,14 @@ blocks_then {w = w} {a = a} {b = b} {c = c} (Err e) more p q = record {
   ok = tt;
   err = broken_then (w.taken a) (w.taken b) (w.taken c) more p.ok q.err;
   going = tt;
-  cause = λ n f. q.cause n (p.going f);
+  cause = q.cause;
   loan = q.loan ∙ p.loan;
 }
 
 -- it lets out a block of what waits
 pub block_out : {S T U : Type 0} {w : Ghosts S} {a b c : S} {x : U} {y : T} {waiting text later : List ℕ}
     → PutsBlocks w a b (Ok x) waiting text → Passes (w.taken b) (w.taken c) later waiting
-    → (w.failed b ≡ false → w.failed c ≡ false) → w.loan c ≡ w.loan b → PutsBlocks w a c (Ok y) later text
+    → w.failed c ≡ w.failed b → w.loan c ≡ w.loan b → PutsBlocks w a c (Ok y) later text
 block_out {w = w} {a = a} {b = b} {c = c} {waiting = waiting} {text = text} {later = later} p q going loan = record {
   ok = (
     p.ok.0 ++ q.0,
@@ -109,7 +109,7 @@ block_out {w = w} {a = a} {b = b} {c = c} {waiting = waiting} {text = text} {lat
     append_assoc p.ok.0 q.0 later ∙ ap (λ (l : List ℕ). p.ok.0 ++ l) q.2 ∙ p.ok.2,
   );
   err = tt;
-  going = λ f. going (p.going f);
+  going = going ∙ p.going;
   cause = tt;
   loan = loan ∙ p.loan;
 }
@@ -117,14 +117,14 @@ block_out {w = w} {a = a} {b = b} {c = c} {waiting = waiting} {text = text} {lat
 -- at the exit of a `?`: the writer failed over a block of what waits
 pub block_broken : {S T U : Type 0} {w : Ghosts S} {a b c : S} {x : U} (r : Result T Error) {e : Error}
     {waiting text later all : List ℕ} (rest : List ℕ) → r ≡ Err e → PutsBlocks w a b (Ok x) waiting text
-    → AppendsPrefix (w.taken b) (w.taken c) waiting → (w.failed b ≡ false → w.failed c ≡ true) → w.loan c ≡ w.loan b
-    → text ++ rest ≡ all → PutsBlocks w a c r later all
+    → AppendsPrefix (w.taken b) (w.taken c) waiting → w.failed c ≡ true → w.loan c ≡ w.loan b → text ++ rest ≡ all
+    → PutsBlocks w a c r later all
 block_broken {w = w} {a = a} {b = b} {c = c} r rest is p q failed loan whole = rw is (record {
   ok = tt;
   err = subst (λ (l : List ℕ). AppendsPrefix (w.taken a) (w.taken c) l) whole
       (prefix_before (cut_then (w.taken a) (w.taken b) (w.taken c) p.ok refl q) rest);
   going = tt;
-  cause = λ n f. failed (p.going f);
+  cause = λ n. failed;
   loan = loan ∙ p.loan;
 })
 
@@ -161,7 +161,7 @@ pub text_out : {S T U : Type 0} {w : Ghosts S} {a b c : S} {x : U} (r : Result T
 text_out {w = w} {a = a} {b = b} {c = c} (Ok y) p e q = record {
   ok = whole_then (w.taken a) (w.taken b) (w.taken c) p.ok e q.takes.grew;
   err = tt;
-  going = λ f. q.failed (p.going f);
+  going = q.failed ∙ p.going;
   cause = tt;
   loan = q.loan ∙ p.loan;
 }
@@ -169,7 +169,7 @@ text_out {w = w} {a = a} {b = b} {c = c} (Err y) p e q = record {
   ok = tt;
   err = cut_then (w.taken a) (w.taken b) (w.taken c) p.ok e q.takes;
   going = tt;
-  cause = λ n f. q.failed (p.going f);
+  cause = λ n. q.failed;
   loan = q.loan ∙ p.loan;
 }
 
@@ -202,7 +202,7 @@ pub texts_then : {S T U : Type 0} {w : Ghosts S} {a b c : S} {x : U} (r : Result
 texts_then {w = w} {a = a} {b = b} {c = c} (Ok y) {one = one} {other = other} p q = record {
   ok = Appends-trans (w.taken a) (w.taken b) (w.taken c) one other p.ok q.ok;
   err = tt;
-  going = λ f. q.going (p.going f);
+  going = q.going ∙ p.going;
   cause = tt;
   loan = q.loan ∙ p.loan;
 }
@@ -210,7 +210,7 @@ texts_then {w = w} {a = a} {b = b} {c = c} (Err y) {one = one} {other = other} p
   ok = tt;
   err = prefix_after (w.taken a) (w.taken b) (w.taken c) one other p.ok q.err;
   going = tt;
-  cause = λ n f. q.cause n (p.going f);
+  cause = q.cause;
   loan = q.loan ∙ p.loan;
 }
 

@@ -1,5 +1,5 @@
 -- Lines that go out block by block, one for each item.
-use Rattle.std.proofs.Common.{◌≡◌, ℕ, ◌+◌, ◌<◌, ◌≤◌, List, [], ◌++◌, length, take, drop, get_or, Result, Ok, Err, false}
+use Rattle.std.proofs.Common.{◌≡◌, ℕ, ◌+◌, ◌<◌, ◌≤◌, List, [], ◌++◌, length, take, drop, get_or, Result, Ok, Err}
 use Rattle.std.proofs.Common.{true, sym, ap, ◌∙◌, subst, take-append-drop}
 use Rattle.std.proofs.lemmas.Grind.{flat_map-append}
 use Rattle.std.proofs.lemmas.List.{take_more, flat_map_more, take_all}
@@ -32,7 +32,7 @@ first_lines f es e = none_out e
 pub line_more : {S X U : Type 0} {w : Ghosts S} {a b c : S} {x : U} (f : X → List ℕ) (es : List X) (i : ℕ) (d : X)
     {old mid new : List ℕ} → i < length es → PutsBlocks w a b (Ok x) old (flat_map f (take i es))
     → mid ≡ old ++ f (get_or es i d) → Passes (w.taken b) (w.taken c) new mid
-    → (w.failed b ≡ false → w.failed c ≡ false) → w.loan c ≡ w.loan b
+    → w.failed c ≡ w.failed b → w.loan c ≡ w.loan b
     → PutsBlocks {T = Unit {0}} w a c (Ok tt) new (flat_map f (take (i + 1) es))
 line_more {w = w} {a = a} {c = c} f es i d {new = new} lt before line out going loan =
     subst (λ (l : List ℕ). PutsBlocks {T = Unit {0}} w a c (Ok tt) new l) (next_lines f es i d lt)
@@ -49,7 +49,7 @@ no_line r f es i {old = old} is kind before =
 pub line_broken : {S X T U : Type 0} {w : Ghosts S} {a b c : S} {x : U} (r : Result T Error) {e : Error}
     (f : X → List ℕ) (es : List X) (i : ℕ) (d : X) {old mid : List ℕ} → r ≡ Err e → i < length es
     → PutsBlocks w a b (Ok x) old (flat_map f (take i es)) → mid ≡ old ++ f (get_or es i d)
-    → AppendsPrefix (w.taken b) (w.taken c) mid → (w.failed b ≡ false → w.failed c ≡ true) → w.loan c ≡ w.loan b
+    → AppendsPrefix (w.taken b) (w.taken c) mid → w.failed c ≡ true → w.loan c ≡ w.loan b
     → PutsText w a c r (flat_map f es)
 line_broken r f es i d {old = old} is lt before line front failed loan =
     text_broken r {waiting = old} is (block_broken r (flat_map f (drop (i + 1) es)) is

@@ -1,7 +1,7 @@
 -- Lines that go out block by block behind other text, one for each item with its place.
 use Rattle.std.proofs.Common.{◌≡◌, ℕ, suc, ◌+◌, ◌<◌, ◌≤◌, List, [], ◌∷◌, ◌++◌, length, take, drop, get_or, Result, Ok}
 use Rattle.std.proofs.Common.{Err}
-use Rattle.std.proofs.Common.{false, true, refl, sym, ap, ◌∙◌, append-nil, append_assoc, subst, take-append-drop, arith}
+use Rattle.std.proofs.Common.{true, refl, sym, ap, ◌∙◌, append-nil, append_assoc, subst, take-append-drop, arith}
 use Rattle.std.proofs.lemmas.List.{take_all}
 use Rattle.std.proofs.lemmas.List.Concat.{flat_map-cons}
 use Rattle.std.specs.List.{enumerate_from, flat_map}
@@ -56,7 +56,7 @@ pub placed_out : {S X U : Type 0} {w : Ghosts S} {a b c : S} {x : U} (f : ℕ ×
     (es : List X) (i : ℕ) (d : X) {old mid new : List ℕ} → i < length es
     → PutsBlocks w a b (Ok x) old (base ++ flat_map f (enumerate_from 0 (take i es)))
     → mid ≡ old ++ f (i, get_or es i d) → Passes (w.taken b) (w.taken c) new mid
-    → (w.failed b ≡ false → w.failed c ≡ false) → w.loan c ≡ w.loan b
+    → w.failed c ≡ w.failed b → w.loan c ≡ w.loan b
     → PutsBlocks {T = Unit {0}} w a c (Ok tt) new (base ++ flat_map f (enumerate_from 0 (take (i + 1) es)))
 placed_out {w = w} {a = a} {c = c} f base es i d {new = new} lt before line out going loan =
     subst (λ (l : List ℕ). PutsBlocks {T = Unit {0}} w a c (Ok tt) new l) (next_line f base es i d lt)
@@ -95,7 +95,7 @@ pub placed_broken : {S X T U : Type 0} {w : Ghosts S} {a b c : S} {x : U} (r : R
     (f : ℕ × X → List ℕ) (base : List ℕ) (es : List X) (i : ℕ) (d : X) {old mid later text : List ℕ} → r ≡ Err e
     → i < length es → PutsBlocks w a b (Ok x) old (base ++ flat_map f (enumerate_from 0 (take i es)))
     → mid ≡ old ++ f (i, get_or es i d) → AppendsPrefix (w.taken b) (w.taken c) mid
-    → (w.failed b ≡ false → w.failed c ≡ true) → w.loan c ≡ w.loan b
+    → w.failed c ≡ true → w.loan c ≡ w.loan b
     → base ++ flat_map f (enumerate_from 0 es) ≡ text → PutsBlocks w a c r later text
 placed_broken r f base es i d is lt before line front failed loan all =
     block_broken r (lines_from f (i + 1) es) is (more_waits (f (i, get_or es i d)) before line) front failed loan

@@ -49,13 +49,13 @@ pub told_of_saved : (meant : words.CommandValue) (k : Kind) (p : List ℕ) (repo
     (before behind : World) (old new : Option (List ℕ))
     → Does (Some report) alone guards before behind (on_file meant k p) old new → reports meant ≡ false → ⊥
 told_of_saved (words.Reads what given place) k p report alone guards before behind old new does e = absurd cc
-told_of_saved (words.Writes writings.Rewrite given place to) k p report alone guards before behind old new does e =
+told_of_saved (words.Writes (writings.Rewrite keep) given place to) k p report alone guards before behind old new does e =
     absurd cc
-told_of_saved (words.Writes writings.Rewrite4 given place to) k p report alone guards before behind old new does e =
+told_of_saved (words.Writes (writings.Rewrite4 keep) given place to) k p report alone guards before behind old new does e =
     absurd cc
 told_of_saved (words.Writes (writings.RewriteTrees missing_ok) given place to) k p report alone guards before behind old
     new does e = absurd cc
 told_of_saved (words.Writes (writings.Update nul) given place to) k p report alone guards before behind old new does e =
     absurd cc
-told_of_saved (words.Writes writings.Salvage given place to) k p report alone guards before behind old new does e =
+told_of_saved (words.Writes (writings.Salvage all) given place to) k p report alone guards before behind old new does e =
     absurd cc

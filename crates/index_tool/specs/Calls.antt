@@ -1,11 +1,9 @@
 -- What each call of the program answers, and what it leaves of files and of the output (the program's own).
-use Rattle.std.specs.Prelude.{◌≡◌, ◌≢◌, ◌≤◌, ◌⊎◌, ◌↔◌, ℕ, Bool, false, true, List, map, Option, Result, IfErr, IfOk}
+use Rattle.std.specs.Prelude.{◌≡◌, ◌≤◌, ◌⊎◌, ℕ, Bool, false, true, List, map, Option, Result, IfErr, IfOk}
 use Rattle.std.specs.Prelude.{OnErr, OnOk, String, string_bytes}
 use Rattle.std.specs.Global.{Global}
 use Rattle.std.specs.Io.KnownBytes.{Keeps}
 use Rattle.std.specs.Option.{option_map}
-use Rattle.std.specs.declared.io.ErrorKind.{ErrorKind}
-use Rattle.std.specs.declared.io.ErrorKind.TheVariants.{OutOfMemory}
 use Rattle.gix_index.specs.Hashing.Out.{Ghosts as Output}
 use Rattle.gix_index.specs.Kind.{Kind}
 use Rattle.gix_index.specs.OnDisk.FolderTrait.{Ghosts as Folder}
@@ -30,7 +28,6 @@ use Rattle.index_tool.specs.Ending.{AreWrong, HasNoPlace, IsDone, IsRefused, IsU
 use Rattle.index_tool.specs.Outcome.{Does, FailsToStore, GivesUp, IsTold, Spares, StoresIndex, Succeeds}
 use Rattle.index_tool.specs.declared.command.Found.{Found}
 use Rattle.index_tool.specs.declared.command.TheConstants.{DONE, REFUSED, WRONG_WORDS}
-use Rattle.index_tool.specs.declared.words.Call.{Call}
 
 -- ---- the index that a command is about
 
@@ -133,14 +130,3 @@ KeepsFaults reported lines old new code = code ≡ DONE → reported ≡ false �
 
 abbrev pub reports_in : List (String Global) → Bool
 reports_in texts = reports_of (meaning_of texts)
-
--- What the program was called with was run so. Where the words can't be had, the status says whether for want of memory
--- or as one isn't UTF-8, nothing goes to the output, and no file is opened.
-pub record EndsCall {S F M T : Type 0} (call : Result Call ErrorKind) (folder : Folder S F M) (before behind : S)
-    (writer : Output T) (old new : T) (code : ℕ) : Type 0 where
-  pub status : code ≤ WRONG_WORDS
-  pub run : IfOk call (λ call. EndsRun call.around call.words.items folder before behind writer old new code)
-  pub no_memory : IfErr call (λ kind. (code ≡ REFUSED) ↔ (kind ≡ OutOfMemory))
-  pub not_utf_8 : IfErr call (λ kind. (code ≡ WRONG_WORDS) ↔ (kind ≢ OutOfMemory))
-  pub nothing_opened : OnErr call (Keeps (writer.taken old) (writer.taken new))
-  pub untouched : OnErr call (folder.known behind ≡ folder.known before)

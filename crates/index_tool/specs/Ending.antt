@@ -66,7 +66,7 @@ IsWrong answers.OutOfMemory = ⊥
 
 -- whether a line tells of what was done, where it was: that of what was saved
 abbrev pub reports : words.CommandValue → Bool
-reports (words.Writes writings.Salvage given place to) = true
+reports (words.Writes (writings.Salvage all) given place to) = true
 reports command = false
 
 abbrev pub reports_of : Meaning → Bool

@@ -10,6 +10,7 @@ use Rattle.index_failures.specs.declared.failure.Failure.{Failure}
 use Rattle.index_failures.specs.Telling.{AnyText, NoText, Tells, TellsPart}
 use Rattle.index_commands.specs.Trees.{AreTrees, FailsToRetree, Retrees}
 use Rattle.index_commands.specs.Checking.{IsPassed}
+use Rattle.index_commands.specs.declared.check.Checks.{Checks}
 use Rattle.index_commands.specs.Listing.{IsListing}
 use Rattle.index_commands.specs.Rewriting.{FailsToRewrite, Rewrites}
 use Rattle.index_commands.specs.Updating.{FailsToStoreUpdate, Updates}
@@ -21,17 +22,25 @@ use Rattle.index_words.specs.declared.command.Reading.{Reading}
 use Rattle.index_words.specs.declared.command.Reading.TheVariants as readings
 use Rattle.index_words.specs.declared.command.Writing.{Writing}
 use Rattle.index_words.specs.declared.command.Writing.TheVariants as writings
+use Rattle.index_commands.specs.declared.rewrite.Form.{Form}
 use Rattle.index_commands.specs.declared.rewrite.Form.TheVariants as forms
 use Rattle.index_commands.specs.declared.rewrite_trees.Counts.{Counts}
 use Rattle.index_commands.specs.declared.rewrite_trees.Counts.TheVariants as counting
 use Rattle.index_tool.specs.Command.{CommandValue, Reads, Writes}
 
+-- what `check` looks at, and what `check-trees` does: with `--strict` at each entry too
+abbrev pub plain_checks : Bool → Checks
+plain_checks strict = record { trees = false; strict = strict }
+
+abbrev pub tree_checks : Bool → Checks
+tree_checks strict = record { trees = true; strict = strict }
+
 -- what is told of a file: the listing of an index, the line of one that passed all checks, the map or the picture of a
 -- file without a fault, the lines or the JSON of what a file holds, or the lines of the trees that an index makes
 abbrev pub IsTold : Reading → World → Kind → List ℕ → List ℕ → Type 0
 IsTold (readings.List lines) world kind file text = IsListing lines (disk_at world file) kind text
-IsTold readings.Check world kind file text = IsPassed false (disk_at world file) kind text
-IsTold readings.CheckTrees world kind file text = IsPassed true (disk_at world file) kind text
+IsTold (readings.Check strict) world kind file text = IsPassed (plain_checks strict) (disk_at world file) kind text
+IsTold (readings.CheckTrees strict) world kind file text = IsPassed (tree_checks strict) (disk_at world file) kind text
 IsTold (readings.Map lines) world kind file text = IsMap lines None (world file) kind text
 IsTold readings.MapSvg world kind file text = IsPicture None (world file) kind text
 IsTold readings.Show world kind file text = IsShown (world file) kind text
@@ -44,6 +53,16 @@ IsToldOfDamaged (readings.Map lines) world kind file offset e text = IsDamagedMa
 IsToldOfDamaged readings.MapSvg world kind file offset e text = IsDamagedPicture (world file) kind offset e text
 IsToldOfDamaged what world kind file offset e text = NoText offset e text
 
+-- by which options an index is written again: the default ones, or where it is kept as it was read all that fits
+abbrev pub form_of : Bool → Form
+form_of true = forms.AsRead
+form_of false = forms.Smallest
+
+-- the same in version 4
+abbrev pub form4_of : Bool → Form
+form4_of true = forms.AsReadV4
+form4_of false = forms.V4
+
 -- which directories of a cached tree that is made get a count: each, where trees may be missing
 abbrev pub counts_of : Bool → Counts
 counts_of true = counting.All
@@ -52,28 +71,28 @@ counts_of false = counting.Known
 -- An index was written to a path: the one in a file, that one with a cached tree made anew or with the changes that the
 -- standard input says, or what is saved of a file, of which alone there is a report.
 abbrev pub StoresIndex : Writing → Bool → Bool → Kind → World → World → List ℕ → List ℕ → Option Report → Type 0
-StoresIndex writings.Rewrite alone guards kind before behind file to report =
-    Rewrites alone guards forms.AsRead kind before behind file to × (report ≡ None)
-StoresIndex writings.Rewrite4 alone guards kind before behind file to report =
-    Rewrites alone guards forms.V4 kind before behind file to × (report ≡ None)
+StoresIndex (writings.Rewrite keep) alone guards kind before behind file to report =
+    Rewrites alone guards (form_of keep) kind before behind file to × (report ≡ None)
+StoresIndex (writings.Rewrite4 keep) alone guards kind before behind file to report =
+    Rewrites alone guards (form4_of keep) kind before behind file to × (report ≡ None)
 StoresIndex (writings.RewriteTrees missing_ok) alone guards kind before behind file to report =
     Retrees alone guards (counts_of missing_ok) kind before behind file to × (report ≡ None)
 StoresIndex (writings.Update nul) alone guards kind before behind file to report =
     Updates alone guards nul kind before behind (codes "/dev/stdin") file to × (report ≡ None)
-StoresIndex writings.Salvage alone guards kind before behind file to report =
-    IsSomeAnd report (Salvages alone guards kind before behind file to)
+StoresIndex (writings.Salvage all) alone guards kind before behind file to report =
+    IsSomeAnd report (Salvages all alone guards kind before behind file to)
 
 -- why none was written
 abbrev pub FailsToStore : Writing → Bool → Bool → Kind → World → List ℕ → List ℕ → Failure → Type 0
-FailsToStore writings.Rewrite works guards kind before file to failure =
+FailsToStore (writings.Rewrite keep) works guards kind before file to failure =
     FailsToRewrite works guards kind before file to failure
-FailsToStore writings.Rewrite4 works guards kind before file to failure =
+FailsToStore (writings.Rewrite4 keep) works guards kind before file to failure =
     FailsToRewrite works guards kind before file to failure
 FailsToStore (writings.RewriteTrees missing_ok) works guards kind before file to failure =
     FailsToRetree works guards kind before file to failure
 FailsToStore (writings.Update nul) works guards kind before file to failure =
     FailsToStoreUpdate nul works guards kind before (codes "/dev/stdin") file to failure
-FailsToStore writings.Salvage works guards kind before file to failure =
+FailsToStore (writings.Salvage all) works guards kind before file to failure =
     FailsToSalvage works guards kind before file to failure
 
 -- what a command did that has this report, or none: known bytes of the output grew by all that it tells of the files

@@ -9,13 +9,15 @@ ghost use Rattle.index_tool.specs.Calls.{Acts, EndsByStatus, EndsRun, FindsIndex
 ghost use Rattle.index_tool.specs.Calls.{KeepsFaults, TellsOf, WritesOf, reports_by, reports_in};
 ghost use Rattle.index_tool.specs.Command.{given_of, input_of};
 ghost use Rattle.index_tool.specs.Ending.{IsWrong};
+ghost use Rattle.index_tool.specs.Outcome.{form4_of, form_of, plain_checks, tree_checks};
 
+use crate::line::{put_line, put_text};
 use crate::terminal::{Console, STANDARD_INPUT};
 use gix_index::file::PathError;
 use gix_index::file::folder::{Folder, Standing};
 use gix_index::hash::Kind;
 use gix_index::hash::io::Out;
-use index_commands::check::check;
+use index_commands::check::{Checks, check};
 use index_commands::list::list;
 use index_commands::rewrite::{Form, rewrite};
 use index_commands::rewrite_trees::{Counts, rewrite_trees};
@@ -30,7 +32,7 @@ use index_telling::show::show;
 use index_telling::show_json::show_json;
 use index_words::{Answer, Command, Input, Reading, Writing, parse};
 use std::alloc::Global;
-use std::io::{ErrorKind, Write};
+use std::io::ErrorKind;
 use std::path::{Path, PathBuf};
 use std::{fmt, io};
 
@@ -105,6 +107,26 @@ fn find<D: Console>(
     Ok(Found { path, kind })
 }
 
+/// What `check` looks at.
+fn plain_checks(strict: bool) -> Checks
+    ensures { result ≡ plain_checks strict }
+{
+    Checks {
+        trees: false,
+        strict,
+    }
+}
+
+/// What `check-trees` looks at.
+fn tree_checks(strict: bool) -> Checks
+    ensures { result ≡ tree_checks strict }
+{
+    Checks {
+        trees: true,
+        strict,
+    }
+}
+
 /// Tells what is asked of the index in a file: Ok where all of it went to `out`.
 fn tell<'a, D: Folder, W: Out>(
     folder: &D,
@@ -118,14 +140,30 @@ fn tell<'a, D: Folder, W: Out>(
 {
     match what {
         Reading::List(lines) => list(folder, alloc, lines, kind, path, out),
-        Reading::Check => check(folder, alloc, false, kind, path, out),
-        Reading::CheckTrees => check(folder, alloc, true, kind, path, out),
+        Reading::Check { strict } => check(folder, alloc, plain_checks(strict), kind, path, out),
+        Reading::CheckTrees { strict } => {
+            check(folder, alloc, tree_checks(strict), kind, path, out)
+        }
         Reading::Map(lines) => map(folder, alloc, lines, kind, path, out),
         Reading::MapSvg => map_svg(folder, alloc, kind, path, out),
         Reading::Show => show(folder, alloc, kind, path, out),
         Reading::ShowJson => show_json(folder, alloc, kind, path, out),
         Reading::Trees(lines) => trees(folder, alloc, lines, kind, path, out),
     }
+}
+
+/// By which options an index is written again: with `keep` all that fits stays.
+fn form_of(keep: bool) -> Form
+    ensures { result ≡ form_of keep }
+{
+    if keep { Form::AsRead } else { Form::Smallest }
+}
+
+/// The same in version 4.
+fn form4_of(keep: bool) -> Form
+    ensures { result ≡ form4_of keep }
+{
+    if keep { Form::AsReadV4 } else { Form::V4 }
 }
 
 /// Writes what is asked of the index in a file to another path. A report comes of what was saved alone.
@@ -140,8 +178,8 @@ fn write<'a, D: Folder>(
 {
     let (kind, path) = (index.kind, index.path.as_str());
     match what {
-        Writing::Rewrite => rewrite(folder, alloc, Form::AsRead, kind, path, to)?,
-        Writing::Rewrite4 => rewrite(folder, alloc, Form::V4, kind, path, to)?,
+        Writing::Rewrite { keep } => rewrite(folder, alloc, form_of(keep), kind, path, to)?,
+        Writing::Rewrite4 { keep } => rewrite(folder, alloc, form4_of(keep), kind, path, to)?,
         Writing::RewriteTrees { missing_ok: true } => {
             rewrite_trees(folder, alloc, Counts::All, kind, path, to)?
         }
@@ -149,7 +187,9 @@ fn write<'a, D: Folder>(
             rewrite_trees(folder, alloc, Counts::Known, kind, path, to)?
         }
         Writing::Update { nul } => update(folder, alloc, nul, kind, STANDARD_INPUT, path, to)?,
-        Writing::Salvage => return Ok(Some(salvage(folder, alloc, kind, path, to)?)),
+        Writing::Salvage { all } => {
+            return Ok(Some(salvage(folder, alloc, all, kind, path, to)?));
+        }
     };
     Ok(None)
 }
@@ -171,25 +211,26 @@ fn say<O: Out, E: io::Write>(alloc: Global, answer: &Answer, out: &mut O, faults
     ensures no_fault { result ≡ DONE → Keeps (E.contents faults.old) (E.contents faults.new) }
 {
     if !answer.is_asked_for() {
-        let _ = write!(faults, "{answer}");
+        put_text(faults, answer);
         return answer.status();
     }
     match print(alloc, answer, out) {
         Ok(()) => DONE,
         Err(e) => {
-            let _ = writeln!(faults, "index-tool: standard output: {e}");
+            put_line(faults, &Failure::Output(e));
             REFUSED
         }
     }
 }
 
-/// What is said behind a fault of an index that has ids of another kind than the words say.
+/// A failure, and of an index that has ids of another kind than the words say, that kind.
 #[derive(Clone, Copy)]
-struct OtherKind(Option<Kind>);
+struct Told<'a>(&'a Failure<'a>, Option<Kind>);
 
-impl fmt::Display for OtherKind {
+impl fmt::Display for Told<'_> {
     fn fmt<W: fmt::Write>(&self, f: &mut fmt::Formatter<W>) -> fmt::Result {
-        match self.0 {
+        write!(f, "{}", self.0)?;
+        match self.1 {
             Some(Kind::Sha1) => f.write_str("; its ids are of the kind `sha1`"),
             Some(Kind::Sha256) => f.write_str("; its ids are of the kind `sha256`"),
             None => Ok(()),
@@ -208,14 +249,14 @@ fn other_kind<D: Folder>(
     alloc: Global,
     index: &Found,
     failure: &Failure<'_>,
-) -> OtherKind {
+) -> Option<Kind> {
     let is_read = matches!(failure, Failure::Index { .. } | Failure::Damaged { .. });
     if !is_read || !is_regular(folder, index.path.as_str()) {
-        return OtherKind(None);
+        return None;
     }
     match kind_at(folder, alloc, index.path.as_str()) {
-        Ok(kind) if kind != index.kind => OtherKind(Some(kind)),
-        _ => OtherKind(None),
+        Ok(kind) if kind != index.kind => Some(kind),
+        _ => None,
     }
 }
 
@@ -256,12 +297,12 @@ fn run_on<D: Folder, O: Out, E: io::Write>(
     match run_command(folder, alloc, command, index, out) {
         Ok(None) => DONE,
         Ok(Some(report)) => {
-            let _ = writeln!(faults, "index-tool: {report}");
+            put_line(faults, &report);
             DONE
         }
         Err(failure) => {
             let other = other_kind(folder, alloc, index, &failure);
-            let _ = writeln!(faults, "index-tool: {failure}{other}");
+            put_line(faults, &Told(&failure, other));
             REFUSED
         }
     }
@@ -281,27 +322,32 @@ fn named<'a>(command: &Command<'a>) -> (Option<Kind>, Option<Input<'a>>)
 /// Runs the command that these words are by [`parse`], and gives the status that the program ends with.
 ///
 /// The index that it is about is FILE: the file at that path, or the standard input, which is held first, so that it
-/// counts as the file [`STANDARD_INPUT`]; without the word the one that [`index_path`] finds. Its kind is KIND, or what
-/// [`kind_at`] tells of that file. `list` writes a line to `out` for each entry, of which some are read from the shared
-/// index that FILE links to. `check` writes `ok` and a newline where the file's digest fits as it is read, the entries
-/// are in order and the cached tree holds together; `check-trees` does so where that tree tells what they give, too.
-/// `trees` writes a line to `out` for each directory of the trees that the entries make. Of FILE by itself, without its
-/// shared index, `map` writes a line to `out` for each part, up to the first fault, where it has one, `map-svg` a
-/// picture of these parts, `show` lines of what it holds, and `show-json` the same as JSON. `rewrite` writes the index
-/// to the path OUT, and nothing to `out`: OUT is locked, as git locks an index, before FILE is opened, and gets the
-/// time of FILE. `rewrite4` does so in version 4, and `rewrite-trees` with a cached tree made anew, in which a
-/// directory has a count and an id where that of FILE has the same; with `--missing-ok` each has them, also those of
-/// trees that no object store has yet. `update` holds the standard input, and writes to FILE, under its lock, what the
-/// changes make of it that are said there; where there is no file, an index is begun. `salvage` writes what can be saved of FILE there, with the entries of its shared
-/// index where that can be read, and says on one line on `faults` how many entries were declared, read and kept, where
-/// the first fault is, and whether the entries of a shared index are there or missing.
+/// counts as the file [`STANDARD_INPUT`]; where `--auto` lets the word be left out, the one that [`index_path`] finds.
+/// Its kind is KIND, or where that is left out what [`kind_at`] tells of that file. `list` writes a line to `out` for
+/// each entry, of which some are read from the shared index that FILE links to. `check` writes `ok` and a newline where
+/// the file's digest fits as it is read, the entries are in order and the cached tree holds together; `check-trees`
+/// does so where that tree tells what they give, too. With `--strict` either does so where git works with each entry, and
+/// none lies where another is a file or a whole directory. `trees` writes a line to `out` for each directory of the trees
+/// that the entries make. Of FILE by itself, without its shared index, `map` writes a line to `out` for each part, up
+/// to the first fault, where it has one, `map-svg` a picture of these parts, `show` lines of what it holds, and
+/// `show-json` the same as JSON. `rewrite` writes the index to the path OUT, and nothing to `out`: OUT is locked, as
+/// git locks an index, before FILE is opened, and gets the time of FILE. It is written by the default options, and with
+/// `--keep` in version 4 where FILE has it, and with all extensions that fit. `rewrite4` does so in version 4, and
+/// `rewrite-trees` with a cached tree made anew, in which a directory has a count and an id where that of FILE has the
+/// same; with `--missing-ok` each has them, also those of trees that no object store has yet. `update` holds the
+/// standard input, and writes to FILE, under its lock, what the changes make of it that are said there; where there is
+/// no file, an index is begun. `salvage` writes what can be saved of FILE there, with the entries of its shared index
+/// where that can be read, in version 4 where FILE has it: the entries before the first that is at fault, or with `--all`
+/// each that is well formed. It says on one line on `faults` how many entries were declared, read and kept, which is the
+/// first at fault, where the first fault of the file is, and whether the entries of a shared index are there or missing.
 ///
 /// [`DONE`]: the command did all that, or `out` took the help or the version that the words ask for. [`REFUSED`]: the
-/// index isn't found, a file can't be read or written, or is no such index, or `out` failed; nothing goes to `out` before
-/// FILE was read whole and, but for `map` and `map-svg`, all checks have passed; the map and the picture of a damaged
-/// file go there whole. One line on `faults` names the file that it concerns. [`WRONG_WORDS`]: the words are no command,
-/// and lines on `faults` say why; no file is opened.
-pub fn run<D: Console, O: Out, E: io::Write>(
+/// index isn't found, a file can't be read or written, or is no such index, or `out` failed; nothing goes to `out`
+/// before FILE was read whole and, but for `map` and `map-svg`, all checks have passed; the map and the picture of a
+/// damaged file go there whole. One line on `faults` names the file that it concerns. [`WRONG_WORDS`]: the words are no
+/// command, and one line on `faults` says why; no file is opened. A line goes to `faults` by one call, and is cut past
+/// 4096 bytes.
+pub fn run_in<D: Console, O: Out, E: io::Write>(
     folder: &mut D,
     alloc: Global,
     around: &Surroundings,
@@ -321,7 +367,7 @@ pub fn run<D: Console, O: Out, E: io::Write>(
     match find(folder, alloc, around, kind, input) {
         Ok(index) => run_on(folder, alloc, command, &index, out, faults),
         Err(fault) => {
-            let _ = writeln!(faults, "index-tool: {fault}");
+            put_line(faults, &fault);
             REFUSED
         }
     }

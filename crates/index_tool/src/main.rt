@@ -2,23 +2,23 @@
 #![tactic(auto)]
 
 pub mod command;
+mod line;
 pub mod terminal;
+#[cfg(test)]
+mod tests;
 pub mod words;
 
-pub use command::run;
-use gix_index::hash::io::{Plain, Retrying};
+pub use command::run_in;
 use std::process::ExitCode;
-use terminal::Terminal;
-use words::{answer, called};
+pub use words::run;
+use words::{answer, words_of};
 
 fn main(rt: HostRuntime) -> ExitCode {
-    let mut out = Plain::new(Retrying { inner: rt.stdout() });
-    let mut folder = Terminal::new(&rt, rt.stdin());
     answer(
-        &mut folder,
+        &rt,
         rt.alloc(),
-        called(&rt),
-        &mut out,
+        words_of(&rt),
+        &mut rt.stdout(),
         &mut rt.stderr(),
     )
 }

@@ -12,9 +12,11 @@ use Rattle.index_parts.specs.declared.hash.Kind.{Kind}
 use Rattle.index_parts.specs.declared.hash.Kind.TheVariants as hashes
 use Rattle.index_objects.specs.Mode.{named_kind}
 use Rattle.index_objects.specs.declared.object.tree.EntryKind.{EntryKind}
+use Rattle.index_objects.specs.declared.object.tree.EntryKind.TheVariants as kinds
 use Rattle.index_entries.specs.declared.Pathless.{Pathless}
 use Rattle.index_edits.specs.Changes.{added_len, change_fault, refusal_from, room_fault}
-use Rattle.index_edits.specs.Refusals.{Check, fault_as, fault_of, id_fault, kind_fault, path_fault, whole_path_fault}
+use Rattle.index_edits.specs.Refusals.{Check, fault_as, fault_of, id_fault, kind_fault, names_fault, names_of, path_fault}
+use Rattle.index_edits.proofs.Whys.{neither}
 use Rattle.index_edits.specs.declared.change.ApplyError.TheVariants.{Refused}
 use Rattle.index_edits.specs.declared.change.Change.{Change}
 use Rattle.index_edits.specs.declared.change.Change.TheVariants as changes
@@ -22,10 +24,6 @@ use Rattle.index_edits.specs.declared.error.Error.{Error}
 use Rattle.index_edits.specs.declared.error.Error.TheVariants as errors
 use Rattle.index_updates.specs.Recordable.{StagesRecordable}
 use Rattle.index_updates.specs.StillStorable.{StagesSized}
-
-neither : {X : Type 0} (a b : Option X) → option_or a b ≡ None → (a ≡ None) × (b ≡ None)
-neither None b h = (refl, h)
-neither (Some x) b h = absurd cc
 
 not_some : {X Y : Type 0} (f : X → Y) (o : Option X) → option_map f o ≡ None → o ≡ None
 not_some f None h = refl
@@ -60,13 +58,21 @@ same_kind hashes.Sha256 hashes.Sha1 h = absurd cc
 same_kind hashes.Sha256 hashes.Sha256 h = refl
 
 module _ (check : Check) (kind : Kind) where
+  of_named : (entry : Pathless) (path : List ℕ) (what : EntryKind)
+      → option_or (id_fault kind entry.id) (names_fault check what (names_of path)) ≡ None → id_kind entry.id ≡ kind
+  of_named entry path what h =
+      let id = (neither (id_fault kind entry.id) (names_fault check what (names_of path)) h).0 in
+      same_kind kind (id_kind entry.id)
+      (neither (kind_fault kind (id_kind entry.id)) (cond (is_null (id_bytes entry.id)) (Some errors.NullId) None) id).0
+
   of_kind : (entry : Pathless) (path : List ℕ) (what : Option EntryKind) → fault_as check kind entry path what ≡ None
       → id_kind entry.id ≡ kind
   of_kind entry path None h = absurd cc
-  of_kind entry path (Some what) h =
-      let id = (neither (id_fault kind entry.id) (whole_path_fault check what path) h).0 in
-      same_kind kind (id_kind entry.id)
-      (neither (kind_fault kind (id_kind entry.id)) (cond (is_null (id_bytes entry.id)) (Some errors.NullId) None) id).0
+  of_kind entry path (Some kinds.Tree) h = absurd cc
+  of_kind entry path (Some kinds.Blob) h = of_named entry path kinds.Blob h
+  of_kind entry path (Some kinds.BlobExecutable) h = of_named entry path kinds.BlobExecutable h
+  of_kind entry path (Some kinds.Link) h = of_named entry path kinds.Link h
+  of_kind entry path (Some kinds.Commit) h = of_named entry path kinds.Commit h
 
   -- the path of an entry that nothing is wrong with has no NUL, and its id is of the kind
   pub faultless : (entry : Pathless) (path : List ℕ) → fault_of check kind entry path ≡ None

@@ -7,6 +7,7 @@ pub mod PartsAnswers
 pub mod Recordings
 pub mod Reorders
 pub mod Risings
+pub mod Searches
 pub mod Sides
 pub mod SpellableCaches
 pub mod SpellableSides

@@ -1,27 +1,31 @@
 -- Sides that go from a list of records, and what is recorded of them.
 use Rattle.std.proofs.Common.{◌≡◌, ◌≢◌, ℕ, suc, ◌+◌, ◌-◌, ◌<◌, ◌≤◌, Bool, true, false, ◌&&◌, ◌||◌, ◌==◌, not, List, [], ◌∷◌, ◌++◌, length, take, drop}
-use Rattle.std.proofs.Common.{get_or, filter, All, Option, Some, None, refl, sym, ap, ◌∙◌, arith, Bor}
-use Rattle.std.specs.List.{list_any}
+use Rattle.std.proofs.Common.{get_or, filter, All, Option, Some, None, refl, sym, ap, ◌∙◌, arith, length-take, Bor}
+use Rattle.std.specs.List.{AllWithin, list_any}
+use Rattle.std.specs.declared.cmp.Ordering.TheVariants.{Equal}
 use Rattle.std.specs.Prelude.{MatchOption, slice_range}
 use Rattle.std.specs.declared.ops.Range.{Range}
-use Rattle.std.proofs.lemmas.List.{get_or-drop, length-drop, take_all, take_more}
+use Rattle.std.proofs.lemmas.List.{get_or-drop, get_or-take, length-drop, take-append-drop, take_all, take_more}
 use Rattle.std.proofs.lemmas.List.Elements.{filter-append}
 use Rattle.std.proofs.lemmas.List.Folds.{list_any_at}
-use Rattle.index_entries.specs.Order.{record_stage}
+use Rattle.index_entries.specs.Order.{record_cmp, record_stage}
 use Rattle.index_entries.specs.Record.{Record, with_path}
 use Rattle.index_entries.specs.Slice.{IsRecordOf}
 use Rattle.index_entries.specs.declared.Entry.{Entry}
 use Rattle.index_entries.specs.declared.Pathless.{Pathless}
+use Rattle.index_entries.proofs.Orders.{own_key}
 use Rattle.index_lookups.proofs.RunFilters.{run_is_filter}
 use Rattle.index_lookups.specs.Closest.{is_below}
+use Rattle.index_lookups.specs.Lookup.{has_key}
 use Rattle.index_lookups.specs.Range.{IsRange, is_at, part_of}
 use Rattle.index_metadata.specs.Flags.{stage_number}
-use Rattle.index_edits.proofs.Displacings.{not_number}
-use Rattle.index_edits.specs.Edits.{are_at_odds}
+use Rattle.index_edits.proofs.Displacings.{displaced_other, not_number}
+use Rattle.index_edits.proofs.Ways.{key_to}
+use Rattle.index_edits.specs.Edits.{are_at_odds, is_displaced}
 use Rattle.index_edits.specs.declared.change.Change.{Change}
 use Rattle.index_edits.specs.declared.change.Change.TheVariants.{Stage, Unstage}
 use Rattle.index_small_extensions.specs.ResolveUndo.{PathStages}
-use Rattle.index_edits.specs.EditSteps.{record_at}
+use Rattle.index_edits.specs.EditSteps.{is_other, record_at}
 use Rattle.index_updates.specs.Undone.{all_recorded, is_lost, lost}
 
 pub all_recorded-append : (rs qs : List Record) (undo : Option (List PathStages))
@@ -68,10 +72,6 @@ recorded_more c rs start k path e old undo now low within p h before one =
 
 pub range_none : {X : Type 0} (xs : List X) (k : ℕ) → slice_range xs k k ≡ []
 range_none xs k = let n : k - k ≡ 0 = omega arith in ap (λ l. take l (drop k xs)) n
-
-range_all : {X : Type 0} (xs : List X) → slice_range xs 0 (length xs) ≡ xs
-range_all xs = let n : length xs - 0 ≡ length xs = omega arith in
-    ap (λ l. take l xs) n ∙ take_all (length xs) xs (omega arith)
 
 -- ---- places among which are all sides that go
 
@@ -138,11 +138,42 @@ unmerged_lost z a b e o f g = rw (f, g) (by z a e)
     by true true false = refl
     by true false e = refl
 
+taken : (z t k : Bool) → (z && (t && not k)) ≡ true → (t ≡ true) × (k ≡ false)
+taken true true false h = (refl, refl)
+taken true true true h = cc
+taken true false k h = cc
+taken false t k h = cc
+
+-- what goes, and isn't replaced, is another
+lost_other : (entry : Pathless) (path : Bor (List ℕ)) (r : Record) → is_other (with_path path.now entry) r ≡ false
+    → is_lost (Stage entry path) r ≡ false
+lost_other entry path r h = not_true (is_lost (Stage entry path) r) (λ t.
+    let new = with_path path.now entry in
+    let both = taken (not (record_stage r == 0)) (is_displaced new r) (has_key path.now (stage_number entry.flags.0) r) t in
+    let apart : record_cmp r new ≢ Equal = λ e.
+    let own = own_key path.now (stage_number entry.flags.0) r e in
+    let key = key_to path.now (stage_number entry.flags.0) r (record { path_is = own.0; stage_is = own.1 }) in
+    let no : true ≡ false = sym key ∙ both.1 in cc in
+    let no : true ≡ false = sym both.0 ∙ displaced_other new r apart ∙ h in cc)
+
+-- where none goes in front of a place
+lost_behind : (entry : Pathless) (path : Bor (List ℕ)) (rs : List Record) (start : ℕ)
+    → AllWithin (λ r. is_other (with_path path.now entry) r ≡ false) rs 0 start
+    → lost (Stage entry path) (slice_range rs start (length rs)) ≡ lost (Stage entry path) rs
+lost_behind entry path rs start h =
+    let c = Stage entry path in
+    let front : lost c (take start rs) ≡ [] = filter_none (is_lost c) (take start rs) (λ k d within.
+    let low : k < start = omega (arith, within, length-take start rs) in
+    rw (get_or-take start rs k d low) (lost_other entry path (get_or rs k d) (h k d (omega arith) low))) in
+    ap (lost c) (take_all (length rs - start) (drop start rs) (omega (arith, length-drop start rs)))
+    ∙ ap (λ l. l ++ lost c (drop start rs)) (sym front) ∙ sym (lost-append c (take start rs) (drop start rs))
+    ∙ ap (lost c) (take-append-drop start rs)
+
 -- where a side is staged, only those that are at odds with it go
 pub lost_odds : (entry : Pathless) (path : Bor (List ℕ)) (rs : List Record) (places : Option (Range ℕ))
     → stage_number entry.flags.0 ≢ 0
     → MatchOption places (list_any (are_at_odds (with_path path.now entry)) rs ≡ false)
-    (λ p. (p.start ≡ 0) × (p.end ≡ length rs))
+    (λ p. (p.end ≡ length rs) × AllWithin (λ r. is_other (with_path path.now entry) r ≡ false) rs 0 p.start)
     → lost (Stage entry path) (part_of rs places) ≡ lost (Stage entry path) rs
 lost_odds entry path rs None some none =
     sym (filter_none (is_lost (Stage entry path)) rs (λ k d u.
@@ -154,4 +185,4 @@ lost_odds entry path rs None some none =
     let odds = are_at_odds (with_path path.now entry) in
     let both : true ≡ false = sym (list_any_at odds rs k d u t) ∙ none in cc))))
 lost_odds entry path rs (Some p) some all =
-    ap (lost (Stage entry path)) (ap (λ k. slice_range rs k p.end) all.0 ∙ ap (slice_range rs 0) all.1 ∙ range_all rs)
+    ap (λ k. lost (Stage entry path) (slice_range rs p.start k)) all.0 ∙ lost_behind entry path rs p.start all.1

@@ -127,12 +127,11 @@ undone_then cs c old mid undo before now is h one =
     one ∙ ap (λ rs. all_recorded (lost c rs) before) is ∙ ap (all_recorded (lost c (applied cs old))) h
     ∙ sym (undone_one c (applied cs old) (undone cs old undo)) ∙ sym (undone-append cs (c ∷ []) old undo)
 
-module _ (cs : List Change) (i : ℕ) (old : List Record) (s : List ℕ) (done entries rest : List Entry) (at : ℕ)
-    (is : rest ≡ drop at entries)
-    (p : IsAppliedTo (take i cs) old (records_in s (done ++ drop at entries))) where
+module _ (cs : List Change) (i : ℕ) (old : List Record) (s : List ℕ) (done rest : List Entry)
+    (p : IsAppliedTo (take i cs) old (records_in s (done ++ rest))) where
   pub one_clear : (d : Change) (known : ℕ) → IsClearFor known d (applied (take i cs) old)
       → IsClearFor known d (records_in s (done ++ rest))
-  one_clear d known h = subst (IsClearFor known d) (sym (ap (λ l. records_in s (done ++ l)) is ∙ p.is)) h
+  one_clear d known h = subst (IsClearFor known d) (sym p.is) h
 
   pub one_more_undone : (d : Change) (undo before now : Option (List PathStages)) → i < length cs
       → before ≡ undone (take i cs) old undo
@@ -140,7 +139,5 @@ module _ (cs : List Change) (i : ℕ) (old : List Record) (s : List ℕ) (done e
       → now ≡ all_recorded (lost (get_or cs i d) (records_in s (done ++ rest))) before)
       → now ≡ undone (take (i + 1) cs) old undo
   one_more_undone d undo before now within b h =
-      let there = subst (λ l. IsStrictlyOrdered (records_in s (done ++ l))
-      → now ≡ all_recorded (lost (get_or cs i d) (records_in s (done ++ l))) before) is h in
-      undone_then (take i cs) (get_or cs i d) old _ undo before now p.is b (there p.ordered)
+      undone_then (take i cs) (get_or cs i d) old _ undo before now p.is b (h p.ordered)
       ∙ ap (λ l. undone l old undo) (sym (take_more cs i d within))

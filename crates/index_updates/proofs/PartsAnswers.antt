@@ -1,10 +1,13 @@
 -- What changes of the parts of an index leave that are made: where a file can hold the old, it can hold the new.
-use Rattle.std.proofs.Common.{◌≡◌, ℕ, List, [], ◌∷◌, None, Ok, length}
+use Rattle.std.proofs.Common.{◌≡◌, ℕ, List, [], ◌∷◌, Ok, length}
 use Rattle.std.specs.Prelude.{count_by}
 use Rattle.std.specs.Borrow.{Bor}
 use Rattle.index_edits.specs.Changes.{IsAppliedTo, refusal_of}
+use Rattle.index_edits.specs.EntryEdits.{SaysFirstRefused, SaysWhy}
 use Rattle.index_edits.specs.Edits.{IsResolvedInto, IsStagedInto, IsToldOf, IsUnstagedFrom, merged}
 use Rattle.index_edits.specs.Refusals.{Check, fault_of}
+use Rattle.index_edits.specs.Wholes.{SaysWhole, whole_fault, whole_refusal}
+use Rattle.index_edits.proofs.Whys.{neither}
 use Rattle.index_edits.specs.declared.change.Change.{Change}
 use Rattle.index_edits.specs.declared.change.Change.TheVariants.{Stage, Unstage}
 use Rattle.index_edits.specs.declared.stage.Displaced.{Displaced}
@@ -18,7 +21,7 @@ use Rattle.index_updates.specs.PartsUpdates.{AppliesParts, ResolvesParts, Stages
 use Rattle.index_updates.proofs.StorableChanges.{changes_stay, stage_stays, unstage_stays}
 
 module _ (refusal : Check) (old new : Parts) where
-  pub applies : (cs : List Change) → refusal_of refusal old.object_hash (length (parts_storage old)) cs ≡ None
+  pub applies : (cs : List Change) → SaysFirstRefused refusal old.object_hash cs old.path_backing old.entries (Ok (tt {0}))
       → UpdatesParts cs old new
       → (PartsInStorage old → IsStrictlyOrdered (parts_records old)
       → IsAppliedTo cs (parts_records old) (parts_records new))
@@ -27,14 +30,17 @@ module _ (refusal : Check) (old new : Parts) where
     reason = reason;
     updated = updated;
     applied = applied;
-    storable = λ here o s. changes_stay (parts_contents old) (parts_contents new) refusal (length (parts_storage old)) cs
-        reason s (updated here o);
+    storable = λ here o s.
+        let none = neither (refusal_of refusal old.object_hash (length (parts_storage old)) cs)
+        (whole_refusal reason.place) reason.reason in
+        changes_stay (parts_contents old) (parts_contents new) refusal (length (parts_storage old)) cs none.0 s
+        (updated here o);
     placed = placed;
     err = tt;
   }
 
   module _ (entry : Pathless) (path : Bor (List ℕ)) (told : Displaced) where
-    pub stages : fault_of refusal old.object_hash entry path.now ≡ None → IsSized (with_path path.now entry)
+    pub stages : SaysWhy refusal old.object_hash entry path.now old.path_backing old.entries (Ok told) → IsSized (with_path path.now entry)
         → UpdatesParts (Stage entry path ∷ []) old new
         → (PartsInStorage old → IsStrictlyOrdered (parts_records old)
         → IsStagedInto (with_path path.now entry) (parts_records old) (parts_records new))
@@ -46,13 +52,14 @@ module _ (refusal : Check) (old new : Parts) where
       updated = updated;
       staged = staged;
       storable = λ here o.
-          stage_stays (parts_contents old) (parts_contents new) refusal entry path reason sized (updated here o);
+          let none = neither (fault_of refusal old.object_hash entry path.now) (whole_fault reason.inside) reason.reason in
+          stage_stays (parts_contents old) (parts_contents new) refusal entry path none.0 sized (updated here o);
       told = tells;
       placed = placed;
       err = tt;
     }
 
-    pub resolves : fault_of refusal old.object_hash (merged entry) path.now ≡ None
+    pub resolves : SaysWhy refusal old.object_hash (merged entry) path.now old.path_backing old.entries (Ok told)
         → IsSized (with_path path.now (merged entry)) → UpdatesParts (Stage (merged entry) path ∷ []) old new
         → (PartsInStorage old → IsStrictlyOrdered (parts_records old)
         → IsResolvedInto (with_path path.now (merged entry)) (parts_records old) (parts_records new))
@@ -64,19 +71,22 @@ module _ (refusal : Check) (old new : Parts) where
       updated = updated;
       resolved = resolved;
       storable = λ here o.
-          stage_stays (parts_contents old) (parts_contents new) refusal (merged entry) path reason sized (updated here o);
+          let none = neither (fault_of refusal old.object_hash (merged entry) path.now) (whole_fault reason.inside)
+          reason.reason in
+          stage_stays (parts_contents old) (parts_contents new) refusal (merged entry) path none.0 sized (updated here o);
       told = tells;
       placed = placed;
       err = tt;
     }
 
-module _ {E : Type 0} (old new : Parts) (path : Bor (List ℕ)) (count : ℕ) where
-  pub unstages : UpdatesParts (Unstage path ∷ []) old new
+module _ (old new : Parts) (path : Bor (List ℕ)) (count : ℕ) where
+  pub unstages : SaysWhole path.now (parts_records old) (Ok count) → UpdatesParts (Unstage path ∷ []) old new
       → (IsStrictlyOrdered (parts_records old) → IsUnstagedFrom path.now (parts_records old) (parts_records new))
       → (IsStrictlyOrdered (parts_records old) → count ≡ count_by (is_at path.now) (parts_records old))
       → parts_storage new ≡ parts_storage old → (PartsInStorage old → PartsInStorage new)
-      → UnstagesParts {E = E} path old new (Ok count)
-  unstages updated unstaged counted storage placed = record {
+      → UnstagesParts path old new (Ok count)
+  unstages reason updated unstaged counted storage placed = record {
+    reason = reason;
     updated = updated;
     unstaged = unstaged;
     storable = λ here o. unstage_stays (parts_contents old) (parts_contents new) path (updated here o);

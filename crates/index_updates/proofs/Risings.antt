@@ -49,10 +49,10 @@ names_stay Q r (p ∷ ps) q h = by (stands r p) (names_stay Q r ps q (All-tail P
     by (above e l n) rest = subst (All P) (sym (before r p ps l n))
         (All-cons P (with_side r (no_sides r.path)) (p ∷ ps) q h)
 
-abbrev Before : PathStages → PathStages → Type 0
+abbrev pub Before : PathStages → PathStages → Type 0
 Before p q = path_cmp p.name q.name ≡ Less
 
-head_rises : (p : PathStages) (ps : List PathStages) → ArePathsRising (p ∷ ps) → All (Before p) ps
+pub head_rises : (p : PathStages) (ps : List PathStages) → ArePathsRising (p ∷ ps) → All (Before p) ps
 head_rises p ps h k d within = h 0 (suc k) d (omega arith) (omega arith)
 
 tail_rises : (p : PathStages) (ps : List PathStages) → ArePathsRising (p ∷ ps) → ArePathsRising ps
@@ -76,7 +76,7 @@ recorded_rises r (p ∷ ps) h = by (stands r p) (recorded_rises r ps (tail_rises
 abbrev pub Rises : Option (List PathStages) → Type 0
 Rises undo = IfSome undo ArePathsRising
 
-all_recorded_rises : (rs : List Record) (undo : Option (List PathStages)) → Rises undo → Rises (all_recorded rs undo)
+pub all_recorded_rises : (rs : List Record) (undo : Option (List PathStages)) → Rises undo → Rises (all_recorded rs undo)
 unfolding all_recorded
 all_recorded_rises [] undo h = h
 all_recorded_rises (r ∷ rs) None h =

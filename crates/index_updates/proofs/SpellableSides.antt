@@ -14,16 +14,44 @@ use Rattle.index_entries.specs.Order.{path_cmp, record_stage}
 use Rattle.index_entries.specs.Record.{Record, with_path}
 use Rattle.index_lookups.specs.Lookup.{insertion_of}
 use Rattle.index_lookups.specs.Range.{is_at}
-use Rattle.index_edits.specs.Changes.{applied_one}
+use Rattle.index_edits.specs.Changes.{applied, applied_one}
 use Rattle.index_edits.specs.Edits.{is_displaced, staged, unstaged}
 use Rattle.index_edits.specs.declared.change.Change.{Change}
 use Rattle.index_edits.specs.declared.change.Change.TheVariants as changes
 use Rattle.index_extension_writing.specs.ResolveUndoImage.{AreSpellablePaths, IsSpellablePath, IsSpellableStage}
 use Rattle.index_small_extensions.specs.ResolveUndo.{PathStages, side_of}
 use Rattle.index_small_extensions.specs.declared.resolve_undo.Stage.{Stage}
-use Rattle.index_updates.specs.Recordable.{IsRecordable, StagesRecordable}
+use Rattle.index_updates.specs.Recordable.{IsRecordable, StagesRecordable, StagesSuch}
 use Rattle.index_updates.specs.Recorded.{no_sides, recorded, with_side}
 use Rattle.index_updates.specs.Undone.{all_recorded, is_lost, lost, undone}
+
+-- ---- what all records are, and the one that a change stages, they are behind it, and behind several
+
+module _ (P : Record → Type 0) where
+  pub one_stays : (c : Change) (rs : List Record) → StagesSuch P c → All P rs → All P (applied_one c rs)
+  unfolding staged unstaged
+  one_stays (changes.Stage entry path) rs s a =
+      let new = with_path path.now entry in
+      let left = filter (λ r. not (is_displaced new r)) rs in
+      let l = All-filter (λ r. not (is_displaced new r)) P rs a in
+      let at = insertion_of new.path (record_stage new) left in
+      All-append P (take at left) (new ∷ drop at left) (All-take P at left l)
+      (All-cons P new (drop at left) s (All-drop P at left l))
+  one_stays (changes.Unstage path) rs s a = All-filter (λ r. not (is_at path.now r)) P rs a
+
+  pub all_stay : (cs : List Change) (rs : List Record) → All (StagesSuch P) cs → All P rs → All P (applied cs rs)
+  unfolding applied
+  all_stay [] rs s a = a
+  all_stay (c ∷ cs) rs s a =
+      let Q = StagesSuch P in
+      all_stay cs (applied_one c rs) (All-tail Q c cs s) (one_stays c rs (All-head Q c cs s) a)
+
+pub stages_weaker : (P Q : Record → Type 0) → ((r : Record) → P r → Q r) → (c : Change) → StagesSuch P c
+    → StagesSuch Q c
+stages_weaker P Q f (changes.Stage entry path) h = f (with_path path.now entry) h
+stages_weaker P Q f (changes.Unstage path) h = tt
+
+-- ---- sides
 
 module _ (kind : Kind) where
   abbrev SideSpells : Option Stage → Type 0
@@ -92,20 +120,6 @@ module _ (kind : Kind) where
       all_spell rs (Some (recorded r (unwrap_or undo []))) (All-tail (IsRecordable kind) r rs a)
       (recorded_spells r (unwrap_or undo []) (All-head (IsRecordable kind) r rs a) before)
 
-  -- entries stay such that their sides can be recorded
-  pub recordable_stay : (c : Change) (rs : List Record) → StagesRecordable kind c → All (IsRecordable kind) rs
-      → All (IsRecordable kind) (applied_one c rs)
-  unfolding staged unstaged
-  recordable_stay (changes.Stage entry path) rs s a =
-      let P = IsRecordable kind in
-      let new = with_path path.now entry in
-      let left = filter (λ r. not (is_displaced new r)) rs in
-      let l = All-filter (λ r. not (is_displaced new r)) P rs a in
-      let at = insertion_of new.path (record_stage new) left in
-      All-append P (take at left) (new ∷ drop at left) (All-take P at left l)
-      (All-cons P new (drop at left) s (All-drop P at left l))
-  recordable_stay (changes.Unstage path) rs s a = All-filter (λ r. not (is_at path.now r)) (IsRecordable kind) rs a
-
   pub undone_spells : (cs : List Change) (rs : List Record) (undo : Option (List PathStages))
       → All (IsRecordable kind) rs → All (StagesRecordable kind) cs → IfSome undo (AreSpellablePaths kind)
       → IfSome (undone cs rs undo) (AreSpellablePaths kind)
@@ -114,5 +128,5 @@ module _ (kind : Kind) where
   undone_spells (c ∷ cs) rs undo a s h =
       let Q = StagesRecordable kind in
       undone_spells cs (applied_one c rs) (all_recorded (lost c rs) undo)
-      (recordable_stay c rs (All-head Q c cs s) a) (All-tail Q c cs s)
+      (one_stays (IsRecordable kind) c rs (All-head Q c cs s) a) (All-tail Q c cs s)
       (all_spell (lost c rs) undo (All-filter (is_lost c) (IsRecordable kind) rs a) h)

@@ -3,27 +3,28 @@ use Rattle.std.proofs.Common.{◌≡◌, ◌≢◌, ℕ, List, [], ◌∷◌, Al
 use Rattle.std.specs.Borrow.{Bor}
 use Rattle.std.specs.Prelude.{IfSome}
 use Rattle.std.specs.Option.{option_map}
-use Rattle.std.proofs.lemmas.List.Elements.{All-cons, All-head, All-nil, All-tail, All-weaker}
+use Rattle.std.proofs.lemmas.List.Elements.{All-cons, All-nil, All-weaker}
 use Rattle.index_parts.specs.Id.{id_kind}
 use Rattle.index_parts.specs.declared.hash.Kind.{Kind}
 use Rattle.index_cached_tree.specs.StoredTree.{IsStorableTree}
 use Rattle.index_cached_tree.specs.Tree.{Node}
 use Rattle.index_entries.specs.Record.{IsSized, Record, with_path}
-use Rattle.index_entries.specs.Storable.{IsPlain}
+use Rattle.index_entries.specs.Storable.{IsPlain, IsStorableIn}
 use Rattle.index_entries.specs.declared.Pathless.{Pathless}
-use Rattle.index_edits.specs.Changes.{applied, applied_one, path_of, refusal_of}
+use Rattle.index_edits.specs.Changes.{applied, path_of, refusal_of}
 use Rattle.index_edits.specs.Refusals.{Check, fault_of}
 use Rattle.index_edits.specs.declared.change.Change.{Change}
 use Rattle.index_edits.specs.declared.change.Change.TheVariants.{Stage, Unstage}
 use Rattle.index_invalidation.specs.Invalidation.{invalidated}
 use Rattle.index_invalidation.proofs.StorableTrees.{storable_stays}
 use Rattle.index_format.specs.Contents.{Contents}
+use Rattle.index_format.specs.Storable.{IsStorable}
 use Rattle.index_updates.specs.Invalidated.{all_invalidated}
-use Rattle.index_updates.specs.Recordable.{IsRecordable, StagesRecordable}
-use Rattle.index_updates.specs.StillStorable.{IsStorableInAnyVersion, StagesSized, StaysStorable}
+use Rattle.index_updates.specs.Recordable.{IsRecordable, StagesRecordable, StagesSuch}
+use Rattle.index_updates.specs.StillStorable.{LackNulInAll, StagesSized, StaysStorable}
 use Rattle.index_updates.specs.Updates.{updated}
 use Rattle.index_updates.proofs.Granted.{faultless, granted}
-use Rattle.index_updates.proofs.SpellableSides.{recordable_stay, undone_spells}
+use Rattle.index_updates.proofs.SpellableSides.{all_stay, stages_weaker, undone_spells}
 
 module _ (kind : Kind) where
   -- ---- the cached tree
@@ -38,43 +39,44 @@ module _ (kind : Kind) where
   if_there cs None h = tt
   if_there cs (Some t) h = tree_stays cs t h
 
-  -- ---- the records
+-- ---- the records
 
-  records_stay : (cs : List Change) (rs : List Record) → All (StagesRecordable kind) cs → All (IsRecordable kind) rs
-      → All (IsRecordable kind) (applied cs rs)
-  unfolding applied
-  records_stay [] rs s a = a
-  records_stay (c ∷ cs) rs s a =
-      let Q = StagesRecordable kind in
-      records_stay cs (applied_one c rs) (All-tail Q c cs s) (recordable_stay kind c rs (All-head Q c cs s) a)
+-- what is staged without a NUL, a file of any kind of version can hold
+storable_in : (kind : Kind) (r : Record) → IsRecordable kind r → IsStorableIn kind r
+storable_in kind r h = record { id = h.id; plain = λ long. h.path; fits = h.sized }
 
--- the sides of such an index can be recorded
-recordable : (v : Contents) → IsStorableInAnyVersion v → All (IsRecordable v.kind) v.records
-recordable v h = λ i d within. record {
-  path = h.without_nul i d within;
-  id = h.storable.ids i d within;
-  sized = h.storable.fits i d within;
-}
+module _ (v : Contents) where
+  -- the records of a storable index are storable one by one
+  each : IsStorable v → All (IsStorableIn v.kind) v.records
+  each h = λ i d within. record { id = h.ids i d within; plain = h.paths i d within; fits = h.fits i d within }
+
+  -- and without a NUL their sides can be recorded
+  recordable : IsStorable v → LackNulInAll v → All (IsRecordable v.kind) v.records
+  recordable h n = λ i d within. record { path = n i d within; id = h.ids i d within; sized = h.fits i d within }
 
 -- ---- the index
 
+abbrev LacksNul : Record → Type 0
+LacksNul r = All (λ b. b ≢ 0) r.path
+
 updated_stays : (cs : List Change) (v : Contents) → All (StagesRecordable v.kind) cs → StaysStorable v (updated cs v)
-updated_stays cs v s h =
-    let kind = v.kind in
-    let rs = applied cs v.records in
-    let before = recordable v h in
-    let after : All (IsRecordable kind) rs = records_stay kind cs v.records s before in
-    record {
-      storable = record {
-        ids = All-weaker (IsRecordable kind) (λ r. id_kind r.id ≡ kind) (λ r k. k.id) rs after;
-        paths = All-weaker (IsRecordable kind) (λ r. IsPlain r.path) (λ r k long. k.path) rs after;
-        fits = All-weaker (IsRecordable kind) IsSized (λ r k. k.sized) rs after;
-        tree = if_there kind cs v.extensions.tree h.storable.tree;
-        resolve_undo =
-            undone_spells kind cs v.records v.extensions.resolve_undo before s h.storable.resolve_undo;
+updated_stays cs v s = record {
+  storable = λ h.
+      let Q = IsStorableIn v.kind in
+      let rs = applied cs v.records in
+      let after : All Q rs = all_stay Q cs v.records
+      (All-weaker (StagesRecordable v.kind) (StagesSuch Q) (stages_weaker (IsRecordable v.kind) Q (storable_in v.kind)) cs s)
+      (each v h) in
+      record {
+        ids = All-weaker Q (λ r. id_kind r.id ≡ v.kind) (λ r k. k.id) rs after;
+        paths = All-weaker Q (λ r. IsPlain r.path) (λ r k. k.plain) rs after;
+        fits = All-weaker Q IsSized (λ r k. k.fits) rs after;
+        tree = if_there v.kind cs v.extensions.tree h.tree;
       };
-      without_nul = All-weaker (IsRecordable kind) (λ r. All (λ b. b ≢ 0) r.path) (λ r k. k.path) rs after;
-    }
+  without_nul = λ n. all_stay LacksNul cs v.records (All-weaker (StagesRecordable v.kind) (StagesSuch LacksNul)
+      (stages_weaker (IsRecordable v.kind) LacksNul (λ r k. k.path)) cs s) n;
+  undo = λ h n u. undone_spells v.kind cs v.records v.extensions.resolve_undo (recordable v h n) s u;
+}
 
 module _ (v now : Contents) where
   pub changes_stay : (check : Check) (len : ℕ) (cs : List Change) → refusal_of check v.kind len cs ≡ None

@@ -7,6 +7,7 @@ use Rattle.index_edits.specs.Changes.{IsAppliedTo}
 use Rattle.index_edits.specs.Edits.{IsResolvedInto, IsStagedInto, IsToldOf, IsUnstagedFrom, merged}
 use Rattle.index_edits.specs.EntryEdits.{SaysFirstRefused, SaysWhy}
 use Rattle.index_edits.specs.Refusals.{Check}
+use Rattle.index_edits.specs.Wholes.{SaysWhole}
 use Rattle.index_edits.specs.declared.change.ApplyError.{ApplyError}
 use Rattle.index_edits.specs.declared.change.Change.{Change}
 use Rattle.index_edits.specs.declared.change.Change.TheVariants.{Stage, Unstage}
@@ -41,7 +42,7 @@ abbrev pub UpdatesParts : List Change → Parts → Parts → Type 0
 UpdatesParts cs old new =
     PartsInStorage old → IsStrictlyOrdered (parts_records old) → parts_contents new ≡ updated cs (parts_contents old)
 
--- where that is so, and a file of any version can hold what the parts stand for, one still can
+-- where that is so, and a file can hold what the parts stand for, one still can
 abbrev pub KeepsPartsStorable : Parts → Parts → Type 0
 KeepsPartsStorable old new =
     PartsInStorage old → IsStrictlyOrdered (parts_records old) → StaysStorable (parts_contents old) (parts_contents new)
@@ -49,7 +50,7 @@ KeepsPartsStorable old new =
 -- the changes are made, or refused at the first that is at fault
 pub record AppliesParts (refusal : Check) (cs : List Change) (old new : Parts) (r : Result (Unit {0}) ApplyError)
     : Type 0 where
-  pub reason : SaysFirstRefused refusal old.object_hash cs old.path_backing r
+  pub reason : SaysFirstRefused refusal old.object_hash cs old.path_backing old.entries r
   pub updated : OnOk r (UpdatesParts cs old new)
   pub applied : OnOk r (PartsInStorage old → IsStrictlyOrdered (parts_records old)
       → IsAppliedTo cs (parts_records old) (parts_records new))
@@ -61,7 +62,7 @@ pub record AppliesParts (refusal : Check) (cs : List Change) (old new : Parts) (
 -- an entry is staged at a path
 pub record StagesParts (refusal : Check) (entry : Pathless) (path : Bor (List ℕ)) (old new : Parts)
     (r : Result Displaced Error) : Type 0 where
-  pub reason : SaysWhy refusal old.object_hash entry path.now old.path_backing r
+  pub reason : SaysWhy refusal old.object_hash entry path.now old.path_backing old.entries r
   pub updated : OnOk r (UpdatesParts (Stage entry path ∷ []) old new)
   pub staged : OnOk r (PartsInStorage old → IsStrictlyOrdered (parts_records old)
       → IsStagedInto (with_path path.now entry) (parts_records old) (parts_records new))
@@ -74,7 +75,7 @@ pub record StagesParts (refusal : Check) (entry : Pathless) (path : Bor (List �
 -- a merged entry is put in place of all stages of a path
 pub record ResolvesParts (refusal : Check) (entry : Pathless) (path : Bor (List ℕ)) (old new : Parts)
     (r : Result Displaced Error) : Type 0 where
-  pub reason : SaysWhy refusal old.object_hash (merged entry) path.now old.path_backing r
+  pub reason : SaysWhy refusal old.object_hash (merged entry) path.now old.path_backing old.entries r
   pub updated : OnOk r (UpdatesParts (Stage (merged entry) path ∷ []) old new)
   pub resolved : OnOk r (PartsInStorage old → IsStrictlyOrdered (parts_records old)
       → IsResolvedInto (with_path path.now (merged entry)) (parts_records old) (parts_records new))
@@ -84,8 +85,9 @@ pub record ResolvesParts (refusal : Check) (entry : Pathless) (path : Bor (List 
   pub placed : PartsInStorage old → PartsInStorage new
   pub err : OnErr r (AreUnchanged old new)
 
--- the entries at a path are taken out, and it is told how many there were
-pub record UnstagesParts {E : Type 0} (path : Bor (List ℕ)) (old new : Parts) (r : Result ℕ E) : Type 0 where
+-- the entries at a path are taken out, and it is told how many there were; or the path lies in a whole directory
+pub record UnstagesParts (path : Bor (List ℕ)) (old new : Parts) (r : Result ℕ Error) : Type 0 where
+  pub reason : SaysWhole path.now (parts_records old) r
   pub updated : OnOk r (UpdatesParts (Unstage path ∷ []) old new)
   pub unstaged : OnOk r (IsStrictlyOrdered (parts_records old)
       → IsUnstagedFrom path.now (parts_records old) (parts_records new))

@@ -15,10 +15,14 @@ pub record IsRecordable (kind : Kind) (r : Record) : Type 0 where
   pub id : id_kind r.id ≡ kind
   pub sized : IsSized r
 
--- so it is of an entry that a change stages
+-- what is so of an entry that a change stages
+abbrev pub StagesSuch : (Record → Type 0) → Change → Type 0
+StagesSuch P (changes.Stage entry path) = P (with_path path.now entry)
+StagesSuch P (changes.Unstage path) = Unit {0}
+
+-- its sides can be recorded
 abbrev pub StagesRecordable : Kind → Change → Type 0
-StagesRecordable kind (changes.Stage entry path) = IsRecordable kind (with_path path.now entry)
-StagesRecordable kind (changes.Unstage path) = Unit {0}
+StagesRecordable kind c = StagesSuch (IsRecordable kind) c
 
 -- Where resolve-undo can be spelled by a kind, and so can the sides of the records and of what the changes stage, it
 -- can be afterwards.

@@ -1,21 +1,22 @@
 -- A side of a conflict among the paths that are recorded, and those that a change takes out (the library's own). Public
 -- clauses cite none of these.
-use Rattle.std.specs.Prelude.{◌≡◌, ◌≢◌, ℕ, ◌<◌, ◌≤◌, true, false, List, [], All, length, map, take, MatchOption, Option}
-use Rattle.std.specs.Prelude.{IfSome}
+use Rattle.std.specs.Prelude.{◌≡◌, ◌≢◌, ℕ, ◌<◌, ◌≤◌, Bool, true, false, List, All, length, map, take, MatchOption}
+use Rattle.std.specs.Prelude.{IfSome, IsTrue, Option}
 use Rattle.std.specs.Global.{Vec}
-use Rattle.std.specs.List.{HoldsAt}
+use Rattle.std.specs.List.{AllWithin, HoldsAt}
 use Rattle.std.specs.Ordering.{is_lt}
 use Rattle.std.specs.declared.ops.Range.{Range}
 use Rattle.index_entries.specs.Order.{IsStrictlyOrdered, path_cmp}
-use Rattle.index_entries.specs.Record.{Record}
+use Rattle.index_entries.specs.Record.{Record, with_path}
 use Rattle.index_entries.specs.declared.Entry.{Entry}
 use Rattle.index_entries.specs.declared.Pathless.{Pathless}
 use Rattle.index_lookups.specs.Range.{LiesWithin, part_of}
-use Rattle.index_edits.specs.EditSteps.{has_odds, record_at}
+use Rattle.index_edits.specs.EditSteps.{has_odds, is_other, record_at}
 use Rattle.index_edits.specs.declared.change.Change.{Change}
 use Rattle.index_small_extensions.specs.ResolveUndo.{PathStages, path_stages}
 use Rattle.index_small_extensions.specs.declared.resolve_undo.ResolvePath.{ResolvePath}
 use Rattle.index_updates.specs.Recorded.{recorded, with_side}
+use Rattle.index_updates.specs.Rising.{ArePathsRising}
 use Rattle.index_updates.specs.Undone.{all_recorded, lost, undo_paths}
 
 -- the recorded paths in memory
@@ -42,6 +43,10 @@ module _ {X : Type 0} (f : X → PathStages) (path : List ℕ) where
   abbrev pub IsOther : List X → ℕ → Type 0
   IsOther xs i = i < length xs → HoldsAt (λ x. (f x).name ≢ path) xs i
 
+-- recorded paths, if there are any, rise where that is said
+abbrev pub AreRisingIf : Bool → Option Paths → Type 0
+AreRisingIf rising undo = IsTrue rising → IfSome (undo_paths undo) ArePathsRising
+
 -- ---- recording a side
 
 -- the entry is put as a side of a recorded path
@@ -66,16 +71,16 @@ AddsAllLost c rs old now = IsStrictlyOrdered rs → AddsLost c rs old now
 abbrev pub HasLost : Change → List Record → Option (Range ℕ) → Type 0
 HasLost c rs places = IsStrictlyOrdered rs → lost c (part_of rs places) ≡ lost c rs
 
--- All places, where the records strictly increase, and one is a file where the entry at the path needs a folder, or the
--- other way round; none, where that isn't so.
-abbrev pub IsWholeIfOdd : List ℕ → Pathless → List Record → Option (Range ℕ) → Type 0
-IsWholeIfOdd path entry rs places =
+-- Where the records strictly increase, and one is a file where the entry at the path needs a folder, or the other way
+-- round: the places up to the end from one on in front of which none goes. None, where that isn't so.
+abbrev pub AreFromOdd : List ℕ → Pathless → List Record → Option (Range ℕ) → Type 0
+AreFromOdd path entry rs places =
     IsStrictlyOrdered rs → MatchOption places (has_odds path entry rs ≡ false)
-    (λ p. (p.start ≡ 0) × (p.end ≡ length rs))
+    (λ p. (p.end ≡ length rs) × AllWithin (λ r. is_other (with_path path entry) r ≡ false) rs 0 p.start)
 
 -- places of the list, or none, that are these
 pub record FindsOdd (path : List ℕ) (entry : Pathless) (rs : List Record) (places : Option (Range ℕ)) : Type 0 where
-  pub all : IsWholeIfOdd path entry rs places
+  pub all : AreFromOdd path entry rs places
   pub inside : IfSome places (LiesWithin rs)
 
 -- places of the list, or none, among which all have theirs that go where the change is made

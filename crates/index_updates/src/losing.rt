@@ -4,13 +4,13 @@ ghost use Rattle.std.specs.Prelude.{◌≡◌, ◌∷◌, [], OnOk};
 ghost use Rattle.index_lookups.specs.Range.{LiesWithin, part_at};
 ghost use Rattle.index_edits.specs.EditSteps.{record_at};
 ghost use Rattle.index_updates.specs.Undone.{is_lost};
-ghost use Rattle.index_updates.specs.RecordingSteps.{AddsAllLost, AddsLost, FindsLost, FindsOdd};
+ghost use Rattle.index_updates.specs.RecordingSteps.{AddsAllLost, AddsLost, AreRisingIf, FindsLost, FindsOdd};
 
 use crate::recording::record_side;
 use index_edits::change::Change;
 use index_edits::near_end::path_range;
 use index_edits::odds::has_odds;
-use index_edits::others::is_other;
+use index_edits::others::{first_other, is_other};
 use index_entries::slice::EntrySlice;
 use index_entries::{Entry, Pathless};
 use index_small_extensions::resolve_undo::Paths;
@@ -33,12 +33,13 @@ fn is_lost(change: &Change<'_>, entry: &Entry, path: &[u8]) -> bool
     }
 }
 
-/// All places, where an entry is a file where the new one needs a folder, or the other way round; else None.
+/// The places from the first on at which one may go, where an entry is a file where the new one needs a folder, or the
+/// other way round; else None.
 fn odd_places(entries: &EntrySlice<'_>, entry: Pathless, path: &[u8]) -> Option<Range<usize>>
     ensures { FindsOdd path.now entry entries.now result }
 {
     if has_odds(entries, entry, path, 0) {
-        return Some(0..entries.len());
+        return Some(first_other(entries, entry, path)..entries.len());
     }
     None
 }
@@ -58,8 +59,8 @@ fn lost_places(entries: &EntrySlice<'_>, change: &Change<'_>) -> Option<Range<us
     }
 }
 
-/// Records the entry if it is a side that goes: among the paths that there are, or as the first. An error is want of
-/// memory.
+/// Records the entry if it is a side that goes: among the paths that there are, which may be known to be `rising`, or as
+/// the first. An error is want of memory.
 #[tactic(auto, unfolding(crate::specs::Undone::all_recorded))]
 fn record_if_lost(
     undo: &mut Option<Paths>,
@@ -67,7 +68,9 @@ fn record_if_lost(
     path: &[u8],
     entry: &Entry,
     change: &Change<'_>,
+    rising: bool,
 ) -> Result<(), AllocError>
+    requires { AreRisingIf rising undo.old }
     ensures { OnOk result (AddsLost change.now (record_at path.now entry.now ∷ []) undo.old
         undo.new) }
 {
@@ -75,10 +78,10 @@ fn record_if_lost(
         return Ok(());
     }
     if let Some(paths) = undo {
-        return record_side(paths, path, entry);
+        return record_side(paths, path, entry, rising);
     }
     let mut paths = Vec::new(alloc);
-    record_side(&mut paths, path, entry)?;
+    record_side(&mut paths, path, entry, rising)?;
     *undo = Some(paths);
     Ok(())
 }
@@ -90,29 +93,35 @@ fn record_lost_at(
     entries: &EntrySlice<'_>,
     places: Range<usize>,
     change: &Change<'_>,
+    rising: bool,
 ) -> Result<(), AllocError>
-    requires { LiesWithin entries.now places }
+    requires inside { LiesWithin entries.now places }
+    requires rising { AreRisingIf rising undo.old }
     ensures { OnOk result (AddsLost change.now (part_at entries.now places) undo.old undo.new) }
 {
     for place in places.start..places.end {
         let path = entries.path(place);
-        record_if_lost(undo, alloc, path, entries.entry(place), change)?;
+        record_if_lost(undo, alloc, path, entries.entry(place), change, rising)?;
     }
     Ok(())
 }
 
 /// Records the sides that go where the change is made, from the first to the last: at each one's path its mode and id,
-/// in place of what was recorded of its stage. Where none goes nothing comes of it. An error is want of memory.
+/// in place of what was recorded of its stage. Where none goes nothing comes of it. Recorded paths that are known to be
+/// `rising` stay so, and few of them are looked at. An error is want of memory.
 pub(crate) fn record_lost(
     undo: &mut Option<Paths>,
     alloc: Global,
     entries: &EntrySlice<'_>,
     change: &Change<'_>,
+    rising: bool,
 ) -> Result<(), AllocError>
-    ensures { OnOk result (AddsAllLost change.now entries.now undo.old undo.new) }
+    requires { AreRisingIf rising undo.old }
+    ensures added { OnOk result (AddsAllLost change.now entries.now undo.old undo.new) }
+    ensures rising { OnOk result (AreRisingIf rising undo.new) }
 {
     if let Some(places) = lost_places(entries, change) {
-        record_lost_at(undo, alloc, entries, places, change)?;
+        record_lost_at(undo, alloc, entries, places, change, rising)?;
     }
     Ok(())
 }

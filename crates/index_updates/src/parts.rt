@@ -13,7 +13,6 @@ use index_entries::Pathless;
 use index_format::Parts;
 use index_format::extension::Outcome;
 use index_objects::check::ComponentCheck;
-use std::alloc::AllocError;
 
 /// Takes out what is kept where entries change.
 fn take_kept(extensions: &mut Outcome) -> Kept
@@ -41,9 +40,9 @@ fn put_kept(extensions: &mut Outcome, kept: Kept)
     extensions.fs_monitor = kept.monitor;
 }
 
-/// Makes changes one after another, all or none: what the parts stand for is then `updated`, and where a file of any
-/// version could hold it, one still can. An error is the same as that of [`update`](crate::update::update), and leaves
-/// the parts as they were.
+/// Makes changes one after another, all or none: what the parts stand for is then `updated`, and where a file could hold
+/// it, one still can. An error is the same as that of [`update`](crate::update::update), and leaves the parts as they
+/// were.
 pub fn apply<C: ComponentCheck>(
     parts: &mut Parts,
     check: &C,
@@ -66,7 +65,7 @@ pub fn apply<C: ComponentCheck>(
 }
 
 /// Stages an entry at a path, and tells what went where it came: what the parts stand for is then `updated` by this one
-/// change, and where a file of any version could hold it, one still can. An error is the same as that of
+/// change, and where a file could hold it, one still can. An error is the same as that of
 /// [`stage`](crate::single::stage), and leaves the parts as they were.
 pub fn stage<C: ComponentCheck>(
     parts: &mut Parts,
@@ -117,9 +116,9 @@ pub fn resolve<C: ComponentCheck>(
 }
 
 /// Takes the entries at a path out, whatever their stage, and tells how many went: what the parts stand for is then
-/// `updated` by this one change, and where a file of any version could hold it, one still can. An error is want of
-/// memory, and leaves the parts as they were.
-pub fn unstage(parts: &mut Parts, path: &[u8]) -> Result<usize, AllocError>
+/// `updated` by this one change, and where a file could hold it, one still can. An error is the same as that of
+/// [`unstage`](crate::single::unstage), and leaves the parts as they were.
+pub fn unstage(parts: &mut Parts, path: &[u8]) -> Result<usize, Error>
     ensures { UnstagesParts path.entry parts.old parts.new result }
 {
     let mut kept = take_kept(&mut parts.extensions);

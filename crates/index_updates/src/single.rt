@@ -3,17 +3,21 @@
 ghost use Rattle.std.specs.Prelude.{◌≡◌, ◌∷◌, [], IfOk};
 ghost use Rattle.index_edits.specs.Edits.{merged};
 ghost use Rattle.index_edits.specs.EntryEdits.{SaysWhy, StagesEntry};
+ghost use Rattle.index_edits.specs.Wholes.{SaysWhole};
 ghost use Rattle.index_edits.specs.declared.change.Change.TheVariants.{Stage, Unstage};
+ghost use Rattle.index_entries.specs.Record.{records_in};
 ghost use Rattle.index_updates.specs.EntryUpdates.{KeepsOne, ResolvesOne, StagesOne, TakesPath, UnstagesOne};
 ghost use Rattle.index_updates.specs.UpdateSteps.{IsUndoneAfter, TellsCut, TellsSettled};
 
 use crate::kept::Kept;
 use crate::losing::record_lost;
+use crate::recording::are_rising;
 use crate::update::{copy_of, renew};
 use index_edits::change::Change;
 use index_edits::error::Error;
 use index_edits::resolve::merged;
 use index_edits::stage::{Displaced, check_stage, settle};
+use index_edits::wholes::lies_in_whole;
 use index_entries::slice::EntrySlice;
 use index_entries::{Entry, PathStorage, Pathless};
 use index_monitor::dirty::monitor_after;
@@ -33,8 +37,10 @@ fn undo_after(
     ensures { IfOk result (IsUndoneAfter (change.now ∷ []) storage.now.items entries.now undo.now) }
 {
     let mut undo = copy_of(undo)?;
+    let rising = are_rising(&undo);
     let alloc = *storage.allocator();
-    record_lost(&mut undo, alloc, &EntrySlice::new(entries, storage), change)?;
+    let there = EntrySlice::new(entries, storage);
+    record_lost(&mut undo, alloc, &there, change, rising)?;
     Ok(undo)
 }
 
@@ -145,13 +151,15 @@ pub fn stage<C: ComponentCheck>(
     entry: Pathless,
     path: &[u8],
 ) -> Result<Displaced, Error>
-    ensures reason { SaysWhy (C.refusal check.now) kind entry path.now storage.old result }
+    ensures reason { SaysWhy (C.refusal check.now) kind entry path.now storage.old entries.old
+        result }
     ensures made { StagesOne entry path.entry storage.old entries.old storage.new entries.new
         result }
     ensures kept { KeepsOne (Stage entry path.entry) storage.old entries.old kept.old kept.new
         result }
 {
-    check_stage(check, kind, storage.len(), entry, path)?;
+    let among = EntrySlice::new(entries, storage);
+    check_stage(check, kind, &among, storage.len(), entry, path)?;
     let change = Change::Stage { entry, path };
     let undo = undo_after(entries, storage, &kept.undo, &change)?;
     let Settled { told, monitor } = settle_watched(entries, storage, &kept.monitor, entry, path)?;
@@ -170,7 +178,9 @@ pub fn resolve<C: ComponentCheck>(
     entry: Pathless,
     path: &[u8],
 ) -> Result<Displaced, Error>
-    ensures reason { SaysWhy (C.refusal check.now) kind (merged entry) path.now storage.old result }
+    ensures reason { SaysWhy (C.refusal check.now) kind (merged entry) path.now storage.old
+        entries.old
+        result }
     ensures made { ResolvesOne entry path.entry storage.old entries.old storage.new entries.new
         result }
     ensures kept { KeepsOne (Stage (merged entry) path.entry) storage.old entries.old kept.old
@@ -183,17 +193,22 @@ pub fn resolve<C: ComponentCheck>(
 /// Takes the entries at a path out, whatever their stage, and keeps what speaks of the entries. It says how many went.
 ///
 /// The entries are then as [`unstage`](index_edits::unstage::unstage) leaves them, and what is kept is as
-/// [`update`](crate::update::update) leaves it after this one change. An error is want of memory, and leaves all as it
-/// was. Over entries that don't strictly increase nothing more is said. Resolve-undo is copied once.
+/// [`update`](crate::update::update) leaves it after this one change. An error says that the path lies in a whole
+/// directory of a sparse index, or is want of memory, and leaves all as it was. Over entries that don't strictly increase
+/// nothing more is said. Resolve-undo is copied once.
 pub fn unstage(
     entries: &mut Vec<Entry>,
     storage: &PathStorage,
     kept: &mut Kept,
     path: &[u8],
-) -> Result<usize, AllocError>
+) -> Result<usize, Error>
+    ensures reason { SaysWhole path.now (records_in storage.now.items entries.old.items) result }
     ensures made { UnstagesOne path.entry storage.now entries.old entries.new result }
     ensures kept { KeepsOne (Unstage path.entry) storage.now entries.old kept.old kept.new result }
 {
+    if lies_in_whole(&EntrySlice::new(entries, storage), path) {
+        return Err(Error::InWholeDirectory);
+    }
     let change = Change::Unstage { path };
     let undo = undo_after(entries, storage, &kept.undo, &change)?;
     let Cut { count, monitor } = cut_watched(entries, storage, &kept.monitor, path)?;

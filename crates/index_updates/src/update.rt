@@ -4,6 +4,7 @@ ghost use Rattle.std.specs.Prelude.{◌≡◌, ◌<◌, IfOk, OnOk, length};
 ghost use Rattle.index_edits.specs.EntryEdits.{AppliesAll, SaysFirstRefused};
 ghost use Rattle.index_updates.specs.EntryUpdates.{KeepsAll};
 ghost use Rattle.index_updates.specs.Invalidated.{CountsNoMore, InvalidatesAll, UnlistsAll};
+ghost use Rattle.index_updates.specs.RecordingSteps.{AreRisingIf};
 ghost use Rattle.index_updates.specs.Undone.{undo_paths};
 ghost use Rattle.index_updates.specs.UpdateSteps.{AppliesNext, IsKnownAt, RecordsNext, Renews, UpdatesEntries};
 ghost use Rattle.index_updates.specs.UpdateSteps.{UpdatesWatched};
@@ -11,6 +12,8 @@ ghost use Rattle.index_updates.specs.UpdateSteps.{UpdatesWatched};
 use crate::invalidating::{invalidate_all, unlist_all};
 use crate::kept::Kept;
 use crate::losing::record_lost;
+use crate::recording::are_rising;
+use index_edits::ahead::Ahead;
 use index_edits::apply::{apply_one, clear_after, pass};
 use index_edits::change::{ApplyError, Change, check_changes};
 use index_edits::order::in_order;
@@ -25,7 +28,8 @@ use std::alloc::AllocError;
 
 /// Makes one change of entries of which the first are done, and the rest are still to be copied behind these, and
 /// records the sides that go. Copies those entries that the change may concern, and tells how many. The first `known`
-/// bytes of its path are known to need no folder where a file of its stage is.
+/// bytes of its path are known to need no folder where a file of its stage is. Recorded paths that are known to be
+/// `rising` stay so.
 fn update_next(
     done: &mut Vec<Entry>,
     storage: &mut PathStorage,
@@ -33,11 +37,14 @@ fn update_next(
     rest: &[Entry],
     change: &Change<'_>,
     known: usize,
+    rising: bool,
 ) -> Result<usize, AllocError>
+    requires { AreRisingIf rising undo.old }
     ensures applied { AppliesNext known change.now rest.now storage.old done.old storage.new
         done.new
         result }
     ensures undone { RecordsNext change.now rest.now storage.old done.old undo.old undo.new result }
+    ensures rising { OnOk result (AreRisingIf rising undo.new) }
 {
     let count = pass(done, storage, rest, change.path())?;
     record_lost(
@@ -45,6 +52,7 @@ fn update_next(
         *storage.allocator(),
         &EntrySlice::new(done, storage),
         change,
+        rising,
     )?;
     apply_one(done, storage, change, known)?;
     Ok(count)
@@ -104,16 +112,18 @@ fn update_each(
     ensures { UpdatesEntries changes.now storage.old storage.new entries.now undo.now result }
 {
     let mut undo = copy_of(undo)?;
+    let rising = are_rising(&undo);
     let room = entries.len().saturating_add(changes.len());
     let mut done = Vec::with_capacity(*storage.allocator(), room)?;
-    let mut at = 0;
+    let mut ahead = Ahead::new(*storage.allocator(), entries);
     for (place, change) in changes.iter().enumerate() {
         let known = known_at(changes, place);
-        let (_, rest) = entries.split_at(at);
-        at += update_next(&mut done, storage, &mut undo, rest, change, known)?;
+        ahead.go_back(&mut done, storage, change.path())?;
+        let rest = ahead.entries();
+        let count = update_next(&mut done, storage, &mut undo, rest, change, known, rising)?;
+        ahead.pass(count);
     }
-    let (_, rest) = entries.split_at(at);
-    done.extend_from_slice(rest)?;
+    done.extend_from_slice(ahead.entries())?;
     Ok(Updated {
         entries: done,
         undo,
@@ -181,17 +191,20 @@ fn update_watched(
 /// side. What a file system monitor said is moved along with the entries, and what is staged may have changed.
 ///
 /// `entries` and `storage` are those of an index whose ids are of the kind. All changes are checked first: the first
-/// that is refused is told with its place, and a want of memory without one. An error leaves the entries, the storage
-/// and what is kept as they were. Each path that is staged asks for room of its own, even where an entry has it or
-/// another change displaces it. Over entries that don't strictly increase, or with a path outside of the storage, nothing
-/// more is said of the entries and of resolve-undo.
+/// that is refused by itself is told with its place; or else the first whose path lies in a whole directory of a sparse
+/// index, as that stands in `entries` before all changes; and a want of memory without a place. An error leaves the
+/// entries, the storage and what is kept as they were. Each path that is staged asks for room of its own, even where an
+/// entry has it or another change displaces it. Over entries that don't strictly increase, or with a path outside of
+/// the storage, nothing more is said of the entries and of resolve-undo.
 ///
-/// The entries are copied once, into one list, and resolve-undo once. m changes to n entries take time as n + m log m,
-/// in whatever order they are given: each looks for its place behind that of the one before it, by steps that double,
-/// and for what it concerns near the end of what was copied. Where the path of one is a folder that another's lies in,
-/// they are made in the order in which they are given, and one that goes back moves what was copied from its place on.
-/// Each side that goes is compared with the recorded paths in front of it. Where an entry goes that hasn't the path and
-/// the stage of the new one, each entry copied so far is looked at once.
+/// The entries are copied once, into one list, and resolve-undo once. m changes to n entries take time as n + m log m:
+/// each looks for its place behind that of the one before it, by steps that double, and for what it concerns near the end
+/// of what was copied. Where the path of one is a folder that another's lies in, they are made in the order in which
+/// they are given. One that goes back over entries then takes time as their number. For that the entries are copied
+/// again, into a list of up to twice as many, whenever its room runs out.
+/// A side that goes is looked for among the recorded paths near the last; where these don't rise, each in front of it is
+/// looked at. A path that is recorded in front of others moves these. Where an entry goes that hasn't the path and the
+/// stage of the new one, those copied so far are looked at from the first that may go on.
 pub fn update<C: ComponentCheck>(
     entries: &mut Vec<Entry>,
     storage: &mut PathStorage,
@@ -200,7 +213,8 @@ pub fn update<C: ComponentCheck>(
     kind: Kind,
     changes: &[Change<'_>],
 ) -> Result<(), ApplyError>
-    ensures reason { SaysFirstRefused (C.refusal check.now) kind changes.now storage.old result }
+    ensures reason { SaysFirstRefused (C.refusal check.now) kind changes.now storage.old entries.old
+        result }
     ensures applied { AppliesAll changes.now storage.old entries.old storage.new entries.new
         result }
     ensures tree { OnOk result (InvalidatesAll changes.now kept.old.tree kept.new.tree) }
@@ -209,7 +223,8 @@ pub fn update<C: ComponentCheck>(
     ensures kept { KeepsAll changes.now storage.old entries.old kept.old kept.new result }
 {
     let len = storage.len();
-    check_changes(check, kind, len, changes)?;
+    let among = EntrySlice::new(entries, storage);
+    check_changes(check, kind, &among, len, changes)?;
     match update_watched(entries, storage, kept, changes) {
         Ok(
             Watched {

@@ -17,14 +17,14 @@ use Rattle.index_extensions.proofs.EndMarks.{marked_none}
 use Rattle.index_format.specs.Answer.{trailer_checksum}
 use Rattle.index_window.specs.Intact.{needs_check, trailer_part, IsIntact}
 
-near_end : (before tail : List ℕ) (n : ℕ) → n ≤ length tail
+pub near_end : (before tail : List ℕ) (n : ℕ) → n ≤ length tail
     → drop (length (before ++ tail) - n) (before ++ tail) ≡ drop (length tail - n) tail
 near_end before tail n le =
     let at : length (before ++ tail) - n ≡ length before + (length tail - n) =
     omega (arith, length-append before tail) in
     rw at (drop-append-add before tail (length tail - n))
 
-before_end : (before tail : List ℕ) (n : ℕ) → n ≤ length tail
+pub before_end : (before tail : List ℕ) (n : ℕ) → n ≤ length tail
     → take (length (before ++ tail) - n) (before ++ tail) ≡ before ++ take (length tail - n) tail
 before_end before tail n le =
     let at : length (before ++ tail) - n ≡ length before + (length tail - n) =
@@ -57,7 +57,7 @@ free_by false true false E e = tt
 free_by false false true E e = tt
 free_by false false false E e = absurd cc
 
-same_by : (t : Bool) (E : Type 0) → E → MatchBool t E (Unit {0})
+pub same_by : (t : Bool) (E : Type 0) → E → MatchBool t E (Unit {0})
 same_by true E e = e
 same_by false E e = tt
 

@@ -1,7 +1,9 @@
 mod Abridging
 mod Endings
 mod Fronts
+mod Hashed
 mod Markers
 mod PassedSums
+mod Refused
 mod Steps
 mod Wholes

@@ -40,7 +40,7 @@ signed_grows (a ∷ b ∷ []) more h = absurd (omega arith)
 signed_grows (a ∷ b ∷ c ∷ []) more h = absurd (omega arith)
 signed_grows (a ∷ b ∷ c ∷ d ∷ l) more h = refl
 
-header_grows : (kind : Kind) (bytes more : List ℕ) → 12 + id_len kind ≤ length bytes
+pub header_grows : (kind : Kind) (bytes more : List ℕ) → 12 + id_len kind ≤ length bytes
     → header_of kind (bytes ++ more) ≡ header_of kind bytes
 header_grows kind bytes more le =
     let a : ltb (length (bytes ++ more)) (12 + id_len kind) ≡ false =

@@ -1,26 +1,16 @@
 -- What the calls answer that read an index file from the disk (the library's own).
-use Rattle.std.specs.Prelude.{◌≡◌, ℕ, Bool, List, Ok, Option, Result, IfErr, IfOk, IfSome, OnOk, true}
-use Rattle.std.specs.Global.{Vec}
-use Rattle.std.specs.declared.io.Error.{Error}
-use Rattle.std.specs.declared.path.Path.{Path}
+use Rattle.std.specs.Prelude.{◌≡◌, ℕ, Bool, List, Ok, Option, IfSome, true}
 use Rattle.index_entries.specs.Record.{AreBytes, IdsAreOf, Record}
-use Rattle.index_folder.specs.Folders.{FailsAt, GivesOfFile}
-use Rattle.index_folder.specs.World.{IsOwnFault, Stored}
-use Rattle.index_folder.specs.declared.folder.Folder.{Ghosts as FolderGhosts}
-use Rattle.index_folder.specs.declared.folder.Source.{Ghosts}
+use Rattle.index_folder.specs.World.{Stored}
 use Rattle.index_format.specs.Answer.{IsAnswer, IsEnding}
 use Rattle.index_format.specs.Contents.{ExtensionIdsAreOf, PartsInStorage, parts_contents, parts_entries}
 use Rattle.index_format.specs.Storable.{IsStorable}
-use Rattle.index_parts.specs.declared.hash.Kind.{Kind}
-use Rattle.index_parts.specs.declared.hash.ObjectId.{ObjectId}
 use Rattle.index_reading.specs.ReadParts.{AreOfKind}
 use Rattle.index_window.specs.Behind.{FollowEntries}
-use Rattle.index_window.specs.Intact.{IsIntact, digest_id}
+use Rattle.index_window.specs.Intact.{IsIntact}
 use Rattle.index_window.specs.declared.ReadOptions.{ReadOptions}
 use Rattle.index_window.specs.declared.plan.Plan.{Plan}
 use Rattle.index_window.specs.declared.windows.WindowedIndex.{WindowedIndex}
-
--- ---- in windows
 
 -- these are all bytes of the file, where it is known
 abbrev pub IsAllOf : Option Stored → List ℕ → Type 0
@@ -49,19 +39,3 @@ pub record IsEndingBy (plan : Plan) (reading : ReadOptions) (records : List Reco
       (Ok (parts_contents x.parts, x.checksum))
   pub behind : x.ending.items ≡ bytes
   pub parts : AreOfKind plan.kind x.parts
-
--- ---- whole
-
--- all that was left of an open file, with its digest
-pub record HashesToEnd {S : Type 0} (source : Ghosts S) (old : S) (kind : Kind) (bytes : List ℕ)
-    (result : Result ObjectId Error) : Type 0 where
-  pub digest : IfOk result (λ id. id ≡ digest_id kind bytes)
-  pub whole : OnOk result (IfSome (source.remaining old) (λ left. bytes ≡ left))
-  pub fault : source.works old ≡ true → IfErr result IsOwnFault
-
--- all bytes of the file at a path, with their digest
-pub record HashesAt {D F M : Type 0} (folder : FolderGhosts D F M) (now : D) (path : Path) (kind : Kind)
-    (result : Result (Vec ℕ × ObjectId) Error) : Type 0 where
-  pub digest : IfOk result (λ read. read.1 ≡ digest_id kind read.0.items)
-  pub held : GivesOfFile folder now path result (λ read file. read.0.items ≡ file.bytes)
-  pub fault : FailsAt folder now path result

@@ -5,6 +5,8 @@ use Rattle.index_parts.specs.Digest.{digest}
 use Rattle.index_parts.specs.Id.{id_len, is_null, make_id}
 use Rattle.index_parts.specs.declared.hash.Kind.{Kind}
 use Rattle.index_parts.specs.declared.hash.ObjectId.{ObjectId}
+use Rattle.index_format.specs.declared.error.Error.{Error}
+use Rattle.index_format.specs.declared.error.Error.TheVariants.{Verify}
 
 -- all bytes but the last, of which an id has as many
 abbrev pub checked_part : Kind → List ℕ → List ℕ
@@ -33,3 +35,7 @@ IsIntact skip kind bytes =
 -- the digest is compared, and it isn't the trailer
 abbrev pub IsBroken : Bool → Kind → List ℕ → Type 0
 IsBroken skip kind bytes = (needs_check skip kind bytes ≡ true) × (digest_id kind bytes ≢ trailer_id kind bytes)
+
+-- the error of a digest that isn't the trailer
+abbrev pub digest_fault : Kind → List ℕ → Error
+digest_fault kind bytes = Verify (digest_id kind bytes) (trailer_id kind bytes)

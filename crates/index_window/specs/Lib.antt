@@ -5,4 +5,5 @@ pub mod Entries
 pub mod Intact
 pub mod Marked
 pub mod Passed
+pub mod ReadWhole
 pub mod Windowed

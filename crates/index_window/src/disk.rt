@@ -1,19 +1,36 @@
-//! All bytes of a file on the disk, with their digest.
+//! All bytes of a file on the disk, with their digest; or its first fault, where its first bytes are no header.
 
-ghost use Rattle.std.specs.Prelude.{◌≡◌, [], true, IfErr, IfOk, IfSome, OnOk};
+ghost use Rattle.std.specs.Prelude.{◌≡◌, ◌≤◌, ◌+◌, ◌-◌, ◌++◌, [], false, length, true, vec_len, IfErr};
+ghost use Rattle.std.specs.Prelude.{IfOk, IfSome, OnOk};
 ghost use Rattle.index_folder.specs.Sources.{ReturnsToStart};
 ghost use Rattle.index_folder.specs.World.{IsOwnFault, whole_of};
-ghost use Rattle.index_window.specs.Answers.{HashesAt, HashesToEnd, IsAllOf};
+ghost use Rattle.index_format.specs.declared.error.Error.TheVariants.{Header};
+ghost use Rattle.index_parts.specs.Id.{id_len};
 ghost use Rattle.index_window.specs.Intact.{digest_id};
+ghost use Rattle.index_window.specs.ReadWhole.{EndsInNull, HashesFront, HashesToEnd, IsComparedFirst, IsReadWhole};
+ghost use Rattle.index_window.specs.ReadWhole.{IsRefusalBehind, IsUnchecked, LacksHeader};
 
-use index_folder::folder::{Folder, Source};
-use index_folder::pieces::{append_piece, fill};
-use index_folder::whole::{MAX_LEN, read_to_end, room_for, too_long};
+use crate::plan::WINDOW_LEN;
+use index_entries::sizes::HEADER_LEN;
+use index_folder::folder::Source;
+use index_folder::pieces::{append_piece, fill, remove_front};
+use index_folder::whole::{MAX_LEN, too_long};
+use index_format::decode::Error;
 use index_parts::hash::{Hasher, Kind, ObjectId};
+use index_reading::decode::header;
 use index_reading::trailer;
 use std::alloc::Global;
 use std::io;
-use std::path::Path;
+
+/// What reading a whole file gives.
+#[derive(Drop)]
+pub enum WholeFile {
+    /// All bytes of the file. The digest is that of all but the last, of which an id has as many; None where it wasn't
+    /// taken.
+    Held(Vec<u8>, Option<ObjectId>),
+    /// The first fault of a file whose header has one. Its bytes aren't held.
+    Refused(Error),
+}
 
 /// Whether a file's last bytes, of which an id has as many, are all zero. It says no of what is no plain file, as a
 /// pipe, which can be read only in order. The file then stands at its start, and the room is empty.
@@ -22,6 +39,7 @@ fn ends_in_null<S: Source>(file: &mut S, kind: Kind, room: &mut Vec<u8>) -> io::
     requires start { S.remaining file.old ≡ whole_of (S.stored file.old) }
     ensures room { OnOk result (room.new.items ≡ []) }
     ensures left { ReturnsToStart S.Source file.old file.new result }
+    ensures null { IfOk result (λ is. is ≡ true → EndsInNull kind (S.stored file.old)) }
 {
     let status = file.status()?;
     if !status.is_plain {
@@ -36,79 +54,177 @@ fn ends_in_null<S: Source>(file: &mut S, kind: Kind, room: &mut Vec<u8>) -> io::
     Ok(is_null)
 }
 
-/// Reads a file to its end in pieces, and hashes each while it is at hand. The digest is that of all bytes but the
-/// last, of which an id of the kind has as many.
-fn read_hashed<S: Source>(file: &mut S, kind: Kind, bytes: &mut Vec<u8>) -> io::Result<ObjectId>
-    requires { bytes.old.items ≡ [] }
-    ensures { HashesToEnd S.Source file.old kind bytes.new.items result }
+/// Whether the digest of a file may have to be compared with its trailer. No where the caller waives it, and where the
+/// last bytes are null. The file then stands at its start, and the room is empty.
+fn may_be_compared<S: Source>(
+    file: &mut S,
+    kind: Kind,
+    skip_hash: bool,
+    room: &mut Vec<u8>,
+) -> io::Result<bool>
+    requires room { room.old.items ≡ [] }
+    requires start { S.remaining file.old ≡ whole_of (S.stored file.old) }
+    ensures room { OnOk result (room.new.items ≡ []) }
+    ensures left { ReturnsToStart S.Source file.old file.new result }
+    ensures wanted { IfOk result (λ is. is ≡ true → skip_hash ≡ false) }
+    ensures unchecked { IfOk result
+        (λ is. is ≡ false → IsUnchecked skip_hash kind (S.stored file.old)) }
+{
+    if skip_hash {
+        return Ok(false);
+    }
+    Ok(!ends_in_null(file, kind, room)?)
+}
+
+/// Hashes the bytes at hand from a place on, but for the last, of which an id has as many. Those before these are let
+/// go unless they are held. Gives the place up to which the bytes at hand are hashed.
+fn hash_front(
+    hasher: &mut Hasher,
+    kind: Kind,
+    is_held: bool,
+    bytes: &mut Vec<u8>,
+    hashed: usize,
+) -> usize
+    requires { hashed ≤ vec_len bytes.old - id_len kind }
+    ensures { HashesFront kind is_held hashed hasher.old hasher.new bytes.old.items bytes.new.items
+        result }
+{
+    let end = bytes.len().saturating_sub(kind.len_in_bytes());
+    hasher.update(&bytes[hashed..end]);
+    if is_held {
+        return end;
+    }
+    remove_front(bytes, end);
+    0
+}
+
+/// Reads a file to its end in pieces, behind bytes that were read of it, and hashes each while it is at hand. The
+/// digest is that of all bytes but the last, of which an id has as many. Only those last stay unless all are held.
+fn read_hashed<S: Source>(
+    file: &mut S,
+    kind: Kind,
+    is_held: bool,
+    bytes: &mut Vec<u8>,
+) -> io::Result<ObjectId>
+    ensures { HashesToEnd S.Source file.old kind is_held bytes.old.items bytes.new.items result }
 {
     let mut hasher = Hasher::new(kind);
     let mut hashed = 0;
+    let mut len = bytes.len() as u64;
     'pieces: loop {
         let count = append_piece(file, bytes)?;
-        let end = bytes.len().saturating_sub(kind.len_in_bytes());
-        hasher.update(&bytes[hashed..end]);
-        hashed = end;
+        hashed = hash_front(&mut hasher, kind, is_held, bytes, hashed);
         if count == 0 {
             return Ok(hasher.finalize());
         }
-        if bytes.len() as u64 > MAX_LEN {
+        len += count as u64;
+        if len > MAX_LEN {
             return Err(too_long());
         }
     }
 }
 
-/// Reads a file to its end. The digest is taken as it is wanted.
+/// Reads a file to its end, behind bytes that were read of it. The digest is taken as it is wanted.
 fn read_whole<S: Source>(
     file: &mut S,
     kind: Kind,
     is_hashed: bool,
     bytes: &mut Vec<u8>,
 ) -> io::Result<Option<ObjectId>>
-    requires { bytes.old.items ≡ [] }
     ensures digest { IfOk result
         (λ digest. IfSome digest (λ id. id ≡ digest_id kind bytes.new.items)) }
-    ensures whole { OnOk result (IfSome (S.remaining file.old) (λ left. bytes.new.items ≡ left)) }
+    ensures whole { OnOk result
+        (IfSome (S.remaining file.old) (λ left. bytes.new.items ≡ bytes.old.items ++ left)) }
     ensures fault { S.works file.old ≡ true → IfErr result IsOwnFault }
 {
     if is_hashed {
-        return Ok(Some(read_hashed(file, kind, bytes)?));
+        return Ok(Some(read_hashed(file, kind, true, bytes)?));
     }
-    read_to_end(file, bytes)?;
+    fill(file, bytes, MAX_LEN as usize + 1)?;
+    if bytes.len() as u64 > MAX_LEN {
+        return Err(too_long());
+    }
     Ok(None)
 }
 
-/// All bytes of the file at a path, read into room for as many as its metadata says, and the digest of all but the
-/// last, of which an id of the kind has as many.
-pub fn hashed_at<D: Folder>(
-    folder: &D,
-    alloc: Global,
-    path: Path<'_>,
-    kind: Kind,
-) -> io::Result<(Vec<u8>, ObjectId)>
-    ensures { HashesAt D.Folder folder.now path.entry kind result }
+/// The fault of the header that begins bytes, if it has one. None too where they are fewer than a header and a trailer
+/// have.
+fn header_fault(kind: Kind, head: &[u8]) -> Option<header::Error>
+    ensures fault { IfSome result (LacksHeader kind head.now) }
+    ensures long { IfSome result (λ _. 12 + id_len kind ≤ length head.now) }
 {
-    let mut file = folder.open(path)?;
-    let mut bytes = room_for(alloc, file.status()?)?;
-    let digest = read_hashed(&mut file, kind, &mut bytes)?;
-    Ok((bytes, digest))
+    if head.len() < HEADER_LEN + kind.len_in_bytes() {
+        return None;
+    }
+    match header::decode(head, kind) {
+        Ok(_) => None,
+        Err(fault) => Some(fault),
+    }
 }
 
-/// The same of a file that was opened, but without the digest where it isn't wanted, or where the last bytes are null.
+/// The first fault of a file whose header has this one. Where its trailer isn't the digest, that comes before.
+fn refusal(kind: Kind, actual: ObjectId, trailer: &[u8], fault: header::Error) -> Error
+    requires { length trailer.now ≡ id_len kind }
+    ensures { IsComparedFirst kind actual trailer.now fault result }
+{
+    let Some(expected) = trailer::checksum(kind, trailer) else {
+        return Error::Header(fault);
+    };
+    if actual != expected {
+        return Error::Verify { actual, expected };
+    }
+    Error::Header(fault)
+}
+
+/// The first fault of a file whose header has this one. Where its digest has to be compared, the file is read to its
+/// end behind this head, and of its bytes only the last stay.
+fn refused<S: Source>(
+    file: &mut S,
+    kind: Kind,
+    is_compared: bool,
+    fault: header::Error,
+    head: &mut Vec<u8>,
+) -> io::Result<Error>
+    requires long { id_len kind ≤ vec_len head.old }
+    ensures unread { IfOk result (λ e. is_compared ≡ false → e ≡ Header fault) }
+    ensures read { IfOk result (λ e. is_compared ≡ true
+        → IsRefusalBehind kind head.old.items (S.remaining file.old) fault e) }
+    ensures fault { S.works file.old ≡ true → IfErr result IsOwnFault }
+{
+    if !is_compared {
+        return Ok(Error::Header(fault));
+    }
+    head.reserve(WINDOW_LEN)?;
+    let actual = read_hashed(file, kind, false, head)?;
+    Ok(refusal(kind, actual, head, fault))
+}
+
+/// All bytes of a file that was opened, read into room for as many as its metadata says, and the digest of all but the
+/// last, of which an id of the kind has as many; without the digest where it isn't wanted, or where the last bytes are
+/// null. Where the first bytes are no header, none are held, and the rest is read only to compare the digest.
 pub fn bytes_of<S: Source>(
     alloc: Global,
     mut file: S,
     kind: Kind,
     skip_hash: bool,
-) -> io::Result<(Vec<u8>, Option<ObjectId>)>
+) -> io::Result<WholeFile>
     requires { S.remaining file ≡ whole_of (S.stored file) }
-    ensures digest { IfOk result
-        (λ read. IfSome read.1 (λ id. id ≡ digest_id kind read.0.items)) }
-    ensures whole { IfOk result (λ read. IsAllOf (S.stored file) read.0.items) }
+    ensures whole { IfOk result (IsReadWhole (S.stored file) skip_hash kind) }
     ensures fault { S.works file ≡ true → IfErr result IsOwnFault }
 {
-    let mut bytes = room_for(alloc, file.status()?)?;
-    let is_hashed = !skip_hash && !ends_in_null(&mut file, kind, &mut bytes)?;
+    let len = file.status()?.len;
+    if len > MAX_LEN {
+        return Err(too_long());
+    }
+    let room = len as usize + 1;
+    let mut bytes = Vec::with_capacity(alloc, room.min(WINDOW_LEN))?;
+    let is_hashed = may_be_compared(&mut file, kind, skip_hash, &mut bytes)?;
+    fill(&mut file, &mut bytes, HEADER_LEN + kind.len_in_bytes())?;
+    if let Some(fault) = header_fault(kind, &bytes) {
+        let error = refused(&mut file, kind, is_hashed, fault, &mut bytes)?;
+        return Ok(WholeFile::Refused(error));
+    }
+    bytes.reserve(room.saturating_sub(bytes.len()))?;
     let digest = read_whole(&mut file, kind, is_hashed, &mut bytes)?;
-    Ok((bytes, digest))
+    Ok(WholeFile::Held(bytes, digest))
 }

@@ -47,31 +47,42 @@ out_taken : (what : Writing) (kind : Kind) (word to : Text) → bytes_eq to (cod
 out_taken what kind word to other = rw other refl
 
 rewrite_taken : (kind : Kind) (to : Text) → IsPath to → meaning (codes "rewrite" ∷ kind_name kind ∷ codes "a" ∷ to ∷ [])
-    ≡ write_meant writings.Rewrite (Some kind) (codes "a" ∷ to ∷ [])
+    ≡ write_meant (writings.Rewrite false) (Some kind) (codes "a" ∷ to ∷ [])
 unfolding clap_on_literals
-rewrite_taken Sha1 to is = rw (is.0, is.1, is.2) refl
-rewrite_taken Sha256 to is = rw (is.0, is.1, is.2) refl
+rewrite_taken Sha1 to is = rw is.0 (rw is.1 (rw is.2 refl))
+rewrite_taken Sha256 to is = rw is.0 (rw is.1 (rw is.2 refl))
 
-rewrite_writes : IsWritten (codes "rewrite" ∷ []) writings.Rewrite
-rewrite_writes kind to is other = rewrite_taken kind to is ∙ out_taken writings.Rewrite kind (codes "a") to other
+rewrite_writes : IsWritten (codes "rewrite" ∷ []) (writings.Rewrite false)
+rewrite_writes kind to is other =
+    rewrite_taken kind to is ∙ out_taken (writings.Rewrite false) kind (codes "a") to other
 
 -- each command that tells something
 each_reads : map (λ name. meaning (name ∷ codes "sha256" ∷ codes "a" ∷ []))
     (codes "list" ∷ codes "check" ∷ codes "check-trees" ∷ codes "map" ∷ codes "map-svg" ∷ codes "show"
     ∷ codes "show-json" ∷ codes "trees" ∷ [])
     ≡ map (λ what. Runs (Reads what (Some Sha256) (Some (file (codes "a")))))
-    (readings.List plain ∷ readings.Check ∷ readings.CheckTrees ∷ readings.Map plain ∷ readings.MapSvg ∷ readings.Show
+    (readings.List plain ∷ readings.Check false ∷ readings.CheckTrees false ∷ readings.Map plain ∷ readings.MapSvg ∷ readings.Show
     ∷ readings.ShowJson ∷ readings.Trees plain ∷ [])
 unfolding clap_on_literals
 each_reads = refl
 
+checks_strictly : map (λ front. meaning (front ++ codes "sha1" ∷ codes "a" ∷ []))
+    ((codes "check" ∷ codes "--strict" ∷ []) ∷ (codes "check-trees" ∷ codes "--strict" ∷ []) ∷ [])
+    ≡ map (λ what. Runs (Reads what (Some Sha1) (Some (file (codes "a")))))
+    (readings.Check true ∷ readings.CheckTrees true ∷ [])
+unfolding clap_on_literals
+checks_strictly = refl
+
 -- each that writes
 each_writes : map (λ front. meaning (front ++ codes "sha1" ∷ codes "a" ∷ codes "b" ∷ []))
-    ((codes "rewrite" ∷ []) ∷ (codes "rewrite4" ∷ []) ∷ (codes "rewrite-trees" ∷ [])
-    ∷ (codes "rewrite-trees" ∷ codes "--missing-ok" ∷ []) ∷ (codes "salvage" ∷ []) ∷ [])
+    ((codes "rewrite" ∷ []) ∷ (codes "rewrite4" ∷ []) ∷ (codes "rewrite" ∷ codes "--keep" ∷ [])
+    ∷ (codes "rewrite4" ∷ codes "--keep" ∷ []) ∷ (codes "rewrite-trees" ∷ [])
+    ∷ (codes "rewrite-trees" ∷ codes "--missing-ok" ∷ []) ∷ (codes "salvage" ∷ [])
+    ∷ (codes "salvage" ∷ codes "--all" ∷ []) ∷ [])
     ≡ map (λ what. Runs (Writes what (Some Sha1) (file (codes "a")) (codes "b")))
-    (writings.Rewrite ∷ writings.Rewrite4 ∷ writings.RewriteTrees false ∷ writings.RewriteTrees true ∷ writings.Salvage
-    ∷ [])
+    (writings.Rewrite false ∷ writings.Rewrite4 false ∷ writings.Rewrite true ∷ writings.Rewrite4 true
+    ∷ writings.RewriteTrees false ∷ writings.RewriteTrees true ∷ writings.Salvage false
+    ∷ writings.Salvage true ∷ [])
 unfolding clap_on_literals
 each_writes = refl
 
@@ -80,18 +91,40 @@ changes_a_file : meaning (codes "update" ∷ codes "-z" ∷ codes "sha1" ∷ cod
 unfolding clap_on_literals
 changes_a_file = refl
 
-changes_no_input : meaning (codes "update" ∷ codes "-" ∷ []) ≡ Says (kind.InvalidValue ∷ [])
+changes_no_input : meaning (codes "update" ∷ codes "sha1" ∷ codes "-" ∷ []) ≡ Says (kind.InvalidValue ∷ [])
 unfolding clap_on_literals
 changes_no_input = refl
 
-in_the_work_tree : meaning (codes "list" ∷ []) ≡ Runs (Reads (readings.List plain) None None)
+-- with `--auto` words may be left out
+in_the_work_tree : meaning (codes "list" ∷ codes "--auto" ∷ []) ≡ Runs (Reads (readings.List plain) None None)
 unfolding clap_on_literals
 in_the_work_tree = refl
 
-without_a_kind : meaning (codes "rewrite" ∷ codes "a" ∷ codes "b" ∷ [])
-    ≡ Runs (Writes writings.Rewrite None (file (codes "a")) (codes "b"))
+without_a_kind : meaning (codes "rewrite" ∷ codes "-a" ∷ codes "a" ∷ codes "b" ∷ [])
+    ≡ Runs (Writes (writings.Rewrite false) None (file (codes "a")) (codes "b"))
 unfolding clap_on_literals
 without_a_kind = refl
+
+-- and none without it
+list_alone : meaning (codes "list" ∷ []) ≡ Says (kind.MissingRequiredArgument ∷ [])
+unfolding clap_on_literals
+list_alone = refl
+
+file_alone : meaning (codes "list" ∷ codes "a" ∷ []) ≡ Says (kind.InvalidValue ∷ [])
+unfolding clap_on_literals
+file_alone = refl
+
+kind_alone : meaning (codes "list" ∷ codes "sha1" ∷ []) ≡ Says (kind.MissingRequiredArgument ∷ [])
+unfolding clap_on_literals
+kind_alone = refl
+
+no_kind_rewritten : meaning (codes "rewrite" ∷ codes "a" ∷ codes "b" ∷ []) ≡ Says (kind.InvalidValue ∷ [])
+unfolding clap_on_literals
+no_kind_rewritten = refl
+
+no_kind_changed : meaning (codes "update" ∷ codes "a" ∷ []) ≡ Says (kind.InvalidValue ∷ [])
+unfolding clap_on_literals
+no_kind_changed = refl
 
 help_asked_for : meaning (codes "help" ∷ []) ≡ Says (kind.DisplayHelp ∷ [])
 unfolding clap_on_literals

@@ -64,8 +64,8 @@ lines_of rows = record { nul = is_set (codes "z") rows; quote = is_set (codes "q
 abbrev pub reading_named : Text → List Row → Option Reading
 reading_named name rows =
     if bytes_eq name (codes "list") then Some (readings.List (lines_of rows))
-    else (if bytes_eq name (codes "check") then Some readings.Check
-    else (if bytes_eq name (codes "check-trees") then Some readings.CheckTrees
+    else (if bytes_eq name (codes "check") then Some (readings.Check (is_set (codes "strict") rows))
+    else (if bytes_eq name (codes "check-trees") then Some (readings.CheckTrees (is_set (codes "strict") rows))
     else (if bytes_eq name (codes "map") then Some (readings.Map (lines_of rows))
     else (if bytes_eq name (codes "map-svg") then Some readings.MapSvg
     else (if bytes_eq name (codes "show") then Some readings.Show
@@ -76,9 +76,9 @@ reading_named name rows =
 -- what the command of a name writes
 abbrev pub writing_named : Text → List Row → Option Writing
 writing_named name rows =
-    if bytes_eq name (codes "rewrite") then Some writings.Rewrite
-    else (if bytes_eq name (codes "rewrite4") then Some writings.Rewrite4
+    if bytes_eq name (codes "rewrite") then Some (writings.Rewrite (is_set (codes "keep") rows))
+    else (if bytes_eq name (codes "rewrite4") then Some (writings.Rewrite4 (is_set (codes "keep") rows))
     else (if bytes_eq name (codes "rewrite-trees")
     then Some (writings.RewriteTrees (is_set (codes "missing-ok") rows))
-    else (if bytes_eq name (codes "salvage") then Some writings.Salvage
+    else (if bytes_eq name (codes "salvage") then Some (writings.Salvage (is_set (codes "all") rows))
     else None)))

@@ -34,7 +34,30 @@ abbrev pub words_at : List Text → List Row → List Text
 words_at [] rows = []
 words_at (id ∷ ids) rows = listed (first_of id rows) (words_at ids rows)
 
--- a first word that names a kind is the KIND
+-- FILE, which `--auto` lets be left out
+abbrev pub read_meant : Bool → Reading → Option Kind → List Text → Meaning
+read_meant auto what kind [] =
+    if auto then Runs (Reads what kind None) else Says (MissingRequiredArgument ∷ [])
+read_meant auto what kind (word ∷ []) = Runs (Reads what kind (Some (place_named word)))
+read_meant auto what kind (word ∷ next ∷ rest) = Says (InvalidValue ∷ [])
+
+-- FILE OUT, which is a path: `-` is the standard input alone
+abbrev pub write_meant : Writing → Option Kind → List Text → Meaning
+write_meant what kind [] = Says (MissingRequiredArgument ∷ [])
+write_meant what kind (word ∷ []) = Says (MissingRequiredArgument ∷ [])
+write_meant what kind (word ∷ to ∷ []) =
+    if bytes_eq to (codes "-") then Says (InvalidValue ∷ []) else Runs (Writes what kind (place_named word) to)
+write_meant what kind (word ∷ to ∷ next ∷ rest) = Says (InvalidValue ∷ [])
+
+-- FILE, which is changed: it is no standard input
+abbrev pub change_meant : Bool → Option Kind → List Text → Meaning
+change_meant nul kind [] = Says (MissingRequiredArgument ∷ [])
+change_meant nul kind (word ∷ []) =
+    if bytes_eq word (codes "-") then Says (InvalidValue ∷ [])
+    else Runs (Writes (Update nul) kind (changed word) word)
+change_meant nul kind (word ∷ next ∷ rest) = Says (InvalidValue ∷ [])
+
+-- with `--auto` a first word that names a kind is the KIND, and else there is none
 abbrev pub kind_in_front : Option Kind → Text → List Text → Option Kind × List Text
 kind_in_front (Some kind) word rest = (Some kind, rest)
 kind_in_front None word rest = (None, word ∷ rest)
@@ -43,51 +66,45 @@ abbrev pub kind_taken : List Text → Option Kind × List Text
 kind_taken [] = (None, [])
 kind_taken (word ∷ rest) = kind_in_front (kind_named word) word rest
 
--- [KIND] [FILE]
-abbrev pub read_meant : Reading → Option Kind → List Text → Meaning
-read_meant what kind [] = Runs (Reads what kind None)
-read_meant what kind (word ∷ []) = Runs (Reads what kind (Some (place_named word)))
-read_meant what kind (word ∷ next ∷ rest) = Says (InvalidValue ∷ [])
-
--- [KIND] FILE OUT, which is a path: `-` is the standard input alone
-abbrev pub write_meant : Writing → Option Kind → List Text → Meaning
-write_meant what kind [] = Says (MissingRequiredArgument ∷ [])
-write_meant what kind (word ∷ []) = Says (MissingRequiredArgument ∷ [])
-write_meant what kind (word ∷ to ∷ []) =
-    if bytes_eq to (codes "-") then Says (InvalidValue ∷ []) else Runs (Writes what kind (place_named word) to)
-write_meant what kind (word ∷ to ∷ next ∷ rest) = Says (InvalidValue ∷ [])
-
--- [KIND] FILE, which is changed: it is no standard input
-abbrev pub change_meant : Bool → Option Kind → List Text → Meaning
-change_meant nul kind [] = Says (MissingRequiredArgument ∷ [])
-change_meant nul kind (word ∷ []) =
-    if bytes_eq word (codes "-") then Says (InvalidValue ∷ [])
-    else Runs (Writes (Update nul) kind (changed word) word)
-change_meant nul kind (word ∷ next ∷ rest) = Says (InvalidValue ∷ [])
-
 abbrev pub on_taken : (Option Kind → List Text → Meaning) → List Text → Meaning
 on_taken meant words = meant (kind_taken words).0 (kind_taken words).1
 
--- what up to two words behind the name mean, and up to three
-abbrev pub on_two : (Option Kind → List Text → Meaning) → Option (Bor Text) → Option (Bor Text) → Meaning
-on_two meant first second = on_taken meant (listed (text_of first) (listed (text_of second) []))
+-- without it the first word is the KIND
+abbrev pub on_kind : (Option Kind → List Text → Meaning) → Option Kind → List Text → Meaning
+on_kind meant (Some kind) rest = meant (Some kind) rest
+on_kind meant None rest = Says (InvalidValue ∷ [])
 
-abbrev pub on_three : (Option Kind → List Text → Meaning) → Option (Bor Text) → Option (Bor Text) → Option (Bor Text)
-    → Meaning
-on_three meant first second third =
-    on_taken meant (listed (text_of first) (listed (text_of second) (listed (text_of third) [])))
+abbrev pub on_named : (Option Kind → List Text → Meaning) → List Text → Meaning
+on_named meant [] = Says (MissingRequiredArgument ∷ [])
+on_named meant (word ∷ rest) = on_kind meant (kind_named word) rest
+
+abbrev pub on_words : Bool → (Option Kind → List Text → Meaning) → List Text → Meaning
+on_words auto meant words = if auto then on_taken meant words else on_named meant words
+
+-- what up to two words behind the name mean, and up to three
+abbrev pub on_two : Bool → (Option Kind → List Text → Meaning) → Option (Bor Text) → Option (Bor Text) → Meaning
+on_two auto meant first second = on_words auto meant (listed (text_of first) (listed (text_of second) []))
+
+abbrev pub on_three : Bool → (Option Kind → List Text → Meaning) → Option (Bor Text) → Option (Bor Text)
+    → Option (Bor Text) → Meaning
+on_three auto meant first second third =
+    on_words auto meant (listed (text_of first) (listed (text_of second) (listed (text_of third) [])))
+
+abbrev pub is_auto : List Row → Bool
+is_auto = is_set (codes "auto")
 
 abbrev pub meant_else : Text → List Row → Meaning
 meant_else name rows =
     if bytes_eq name (codes "update")
-    then on_taken (change_meant (is_set (codes "z") rows)) (words_at (codes "KIND" ∷ codes "FILE" ∷ []) rows)
+    then on_words (is_auto rows) (change_meant (is_set (codes "z") rows))
+    (words_at (codes "KIND" ∷ codes "FILE" ∷ []) rows)
     else Says (InvalidSubcommand ∷ [])
 
 abbrev pub meant_so : Text → Option Reading → Option Writing → List Row → Meaning
 meant_so name (Some what) other rows =
-    on_taken (read_meant what) (words_at (codes "KIND" ∷ codes "FILE" ∷ []) rows)
+    on_words (is_auto rows) (read_meant (is_auto rows) what) (words_at (codes "KIND" ∷ codes "FILE" ∷ []) rows)
 meant_so name None (Some what) rows =
-    on_taken (write_meant what) (words_at (codes "KIND" ∷ codes "FILE" ∷ codes "OUT" ∷ []) rows)
+    on_words (is_auto rows) (write_meant what) (words_at (codes "KIND" ∷ codes "FILE" ∷ codes "OUT" ∷ []) rows)
 meant_so name None None rows = meant_else name rows
 
 abbrev pub meant : Text → List Row → Meaning

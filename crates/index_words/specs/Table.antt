@@ -15,7 +15,7 @@ names =
     ∷ codes "show" ∷ codes "show-json" ∷ codes "trees" ∷ codes "rewrite" ∷ codes "rewrite4"
     ∷ codes "rewrite-trees" ∷ codes "update" ∷ codes "salvage" ∷ []
 
--- the commands that write an index, and those that write lines with paths
+-- the commands that write an index, those that write lines with paths, and those that check an index
 abbrev pub is_writing : Text → Bool
 is_writing name =
     bytes_eq name (codes "rewrite") || (bytes_eq name (codes "rewrite4")
@@ -24,6 +24,9 @@ is_writing name =
 abbrev pub has_lines : Text → Bool
 has_lines name =
     bytes_eq name (codes "list") || (bytes_eq name (codes "map") || bytes_eq name (codes "trees"))
+
+abbrev pub is_checking : Text → Bool
+is_checking name = bytes_eq name (codes "check") || bytes_eq name (codes "check-trees")
 
 abbrev pub flag : Text → Rule
 flag id = record (new_rule id) { action = Some SetTrue }
@@ -42,20 +45,40 @@ with_nul a = with_rule a (short_flag (codes "z") 122)
 abbrev pub with_lines : App → App
 with_lines a = with_rule (with_nul a) (long_flag (codes "quote"))
 
+abbrev pub auto_flag : Rule
+auto_flag = record (short_flag (codes "auto") 97) { long = Some (codes "auto") }
+
+abbrev pub with_keep : App → App
+with_keep a = with_rule a (long_flag (codes "keep"))
+
+abbrev pub with_all : App → App
+with_all a = with_rule a (long_flag (codes "all"))
+
 abbrev pub with_missing : App → App
 with_missing a = with_rule a (long_flag (codes "missing-ok"))
+
+abbrev pub with_strict : App → App
+with_strict a = with_rule a (long_flag (codes "strict"))
 
 abbrev pub with_out : App → App
 with_out a = with_rule a (new_rule (codes "OUT"))
 
-abbrev pub with_inputs : App → App
-with_inputs a = with_rule (with_rule a (new_rule (codes "KIND"))) (new_rule (codes "FILE"))
+abbrev pub with_auto : App → App
+with_auto a = with_rule a auto_flag
 
--- the command of a name that writes, behind the words KIND and FILE: with the word OUT, and its
--- option
+-- the words KIND and FILE, and `-a` or `--auto`
+abbrev pub with_inputs : App → App
+with_inputs a = with_auto (with_rule (with_rule a (new_rule (codes "KIND"))) (new_rule (codes "FILE")))
+
+-- the commands that write an index again
+abbrev pub is_rewriting : Text → Bool
+is_rewriting name = bytes_eq name (codes "rewrite") || bytes_eq name (codes "rewrite4")
+
+-- the command of a name that writes, behind the words KIND and FILE: with the word OUT, and its option
 abbrev pub written_app : Text → App → App
 written_app name a =
-    if bytes_eq name (codes "rewrite-trees") then with_missing (with_out a) else with_out a
+    if bytes_eq name (codes "rewrite-trees") then with_missing (with_out a)
+    else (if is_rewriting name then with_keep (with_out a) else with_all (with_out a))
 
 -- the command of a name, with its words and options
 abbrev pub command_app : Text → App
@@ -63,7 +86,8 @@ command_app name =
     if is_writing name then written_app name (with_inputs (new_app name))
     else (if bytes_eq name (codes "update") then with_nul (with_inputs (new_app name))
     else (if has_lines name then with_lines (with_inputs (new_app name))
-    else with_inputs (new_app name)))
+    else (if is_checking name then with_strict (with_inputs (new_app name))
+    else with_inputs (new_app name))))
 
 abbrev pub with_command : App → Text → App
 with_command a name = with_subcommand a (command_app name).top

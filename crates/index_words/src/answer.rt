@@ -4,6 +4,7 @@ ghost use Rattle.std.specs.Prelude.{◌≡◌};
 ghost use Rattle.index_words.specs.Answers.{answer_of, is_asked_for, status_of};
 ghost use Rattle.index_words.specs.declared.answer.Answer.TheVariants.{OutOfMemory};
 
+use crate::cause::Cause;
 use clap::error::ErrorKind;
 use std::alloc::AllocError;
 use thiserror::Error;
@@ -17,8 +18,8 @@ pub enum Answer {
     /// The version, which the words ask for.
     #[error("{0}")]
     Version(clap::Error),
-    /// What is wrong with the words.
-    #[error("{0}")]
+    /// What is wrong with the words, on one line.
+    #[error("index-tool: {}\n", Cause(.0))]
     WrongWords(clap::Error),
     /// A growth of memory was refused.
     #[error("index-tool: out of memory\n")]

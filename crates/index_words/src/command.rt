@@ -3,7 +3,7 @@
 use index_parts::hash::Kind;
 use index_text::lines::Lines;
 
-/// A command with its words. A kind of None is that which the file tells by itself.
+/// A command with its words. A kind of None, which `--auto` allows, is that which the file tells by itself.
 #[derive(Clone, Copy, Debug, PartialEq, Eq)]
 pub enum Command<'a> {
     /// What is told of an index.
@@ -12,7 +12,7 @@ pub enum Command<'a> {
         what: Reading,
         /// The kind of its ids.
         kind: Option<Kind>,
-        /// Where it is: with None, in the work tree around the program.
+        /// Where it is: with None, which `--auto` allows, in the work tree around the program.
         input: Option<Input<'a>>,
     },
     /// What is written of an index.
@@ -45,9 +45,15 @@ pub enum Reading {
     /// `list`: a line for each entry.
     List(Lines),
     /// `check`: whether it is sound.
-    Check,
+    Check {
+        /// `--strict`: and whether git takes each entry.
+        strict: bool,
+    },
     /// `check-trees`: the same, and whether its cached tree fits the entries.
-    CheckTrees,
+    CheckTrees {
+        /// `--strict`: and whether git takes each entry.
+        strict: bool,
+    },
     /// `map`: a line for each part of the file, up to its first fault.
     Map(Lines),
     /// `map-svg`: a picture of these parts.
@@ -63,10 +69,16 @@ pub enum Reading {
 /// What is written of an index.
 #[derive(Clone, Copy, Debug, PartialEq, Eq)]
 pub enum Writing {
-    /// `rewrite`: the index again.
-    Rewrite,
+    /// `rewrite`: the index again, with the default options.
+    Rewrite {
+        /// `--keep`: in version 4 where it has that, and with all its extensions that fit.
+        keep: bool,
+    },
     /// `rewrite4`: the same in version 4.
-    Rewrite4,
+    Rewrite4 {
+        /// `--keep`: with all its extensions that fit.
+        keep: bool,
+    },
     /// `rewrite-trees`: the index with a cached tree made anew.
     RewriteTrees {
         /// `--missing-ok`: each directory has its count and id, also where no object store has the tree yet.
@@ -78,5 +90,8 @@ pub enum Writing {
         nul: bool,
     },
     /// `salvage`: what can be saved of a damaged index.
-    Salvage,
+    Salvage {
+        /// `--all`: also what is well formed behind the first entry that is at fault.
+        all: bool,
+    },
 }

@@ -2,6 +2,7 @@
 #![tactic(auto)]
 
 pub mod answer;
+mod cause;
 pub mod command;
 mod refusal;
 mod table;

@@ -14,6 +14,25 @@ use std::alloc::{AllocError, Global};
 /// What is said of a name that no command has.
 pub const NO_COMMAND: &str = "there is no such command";
 
+/// What is said where a command that tells has no words.
+pub const NO_INPUT: &str =
+    "KIND and FILE are missing; with --auto each may be left out, FILE in a work tree";
+
+/// What is said where a command that changes a file has no words.
+pub const NO_CHANGED: &str = "KIND and FILE are missing; with --auto KIND may be left out";
+
+/// What is said where a command that writes has no words.
+pub const NO_WORDS: &str = "KIND, FILE and OUT are missing; with --auto KIND may be left out";
+
+/// What is said where KIND stands alone, and one word is wanted behind it.
+pub const NO_FILE: &str = "FILE is missing behind KIND";
+
+/// What is said where KIND stands alone, and two words are wanted behind it.
+pub const NO_FILE_AND_OUT: &str = "FILE and OUT are missing behind KIND";
+
+/// What is said where the last word of a command that writes is missing.
+pub const NO_OUT: &str = "OUT is missing behind FILE";
+
 /// The answer of this kind and text to words behind a command's name, with the command's usage.
 pub fn refusal(alloc: Global, name: &str, kind: ErrorKind, text: &str) -> Answer
     ensures { Answers (Says (kind ∷ [])) result }
@@ -42,7 +61,7 @@ pub fn no_kind(alloc: Global, name: &str, word: &str) -> Answer
     ensures { Answers (Says (ErrorKind.InvalidValue ∷ [])) result }
 {
     match format!(in alloc;
-        "invalid value '{word}' for '[KIND]'\n  [possible values: sha1, sha256]"
+        "invalid value '{word}' for KIND: it is sha1 or sha256, or left out with --auto"
     ) {
         Ok(text) => refusal(alloc, name, ErrorKind::InvalidValue, text.as_str()),
         Err(_) => Answer::OutOfMemory,
@@ -53,7 +72,7 @@ pub fn no_kind(alloc: Global, name: &str, word: &str) -> Answer
 pub fn no_out(alloc: Global, name: &str) -> Answer
     ensures { Answers (Says (ErrorKind.InvalidValue ∷ [])) result }
 {
-    let text = "invalid value '-' for '<OUT>': it is the path of a file, as `./-` is";
+    let text = "invalid value '-' for OUT: it is the path of a file, as `./-` is";
     refusal(alloc, name, ErrorKind::InvalidValue, text)
 }
 
@@ -61,21 +80,13 @@ pub fn no_out(alloc: Global, name: &str) -> Answer
 pub fn no_file(alloc: Global, name: &str) -> Answer
     ensures { Answers (Says (ErrorKind.InvalidValue ∷ [])) result }
 {
-    let text = "invalid value '-' for '<FILE>': the standard input has the changes";
+    let text = "invalid value '-' for FILE: the standard input has the changes";
     refusal(alloc, name, ErrorKind::InvalidValue, text)
 }
 
-/// The answer where words are missing.
-pub fn missing(alloc: Global, name: &str, words: &str) -> Answer
+/// The answer where words are missing, of which the text tells.
+pub fn missing(alloc: Global, name: &str, text: &str) -> Answer
     ensures { Answers (Says (ErrorKind.MissingRequiredArgument ∷ [])) result }
 {
-    match format!(in alloc; "the following required arguments were not provided:\n  {words}") {
-        Ok(text) => refusal(
-            alloc,
-            name,
-            ErrorKind::MissingRequiredArgument,
-            text.as_str(),
-        ),
-        Err(_) => Answer::OutOfMemory,
-    }
+    refusal(alloc, name, ErrorKind::MissingRequiredArgument, text)
 }

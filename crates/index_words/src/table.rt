@@ -3,9 +3,10 @@
 ghost use Rattle.std.specs.Prelude.{◌≡◌, IfOk, false, map, codes, Some, None, [], option_map, fold};
 ghost use Rattle.clap.specs.Simple.{app_of};
 ghost use Rattle.clap.specs.Walk.{rule_of};
-ghost use Rattle.index_words.specs.Table.{Extends, MakesApp, command_app, flag, has_lines, help_app, is_writing, names};
-ghost use Rattle.index_words.specs.Table.{no_commands, program, with_command, with_inputs, with_lines, with_missing};
-ghost use Rattle.index_words.specs.Table.{with_nul, with_out, written_app};
+ghost use Rattle.index_words.specs.Table.{Extends, MakesApp, command_app, flag, has_lines, help_app, is_checking};
+ghost use Rattle.index_words.specs.Table.{is_rewriting, is_writing, names, with_all, with_auto, with_strict};
+ghost use Rattle.index_words.specs.Table.{no_commands, program, with_command, with_inputs, with_keep, with_lines};
+ghost use Rattle.index_words.specs.Table.{with_missing, with_nul, with_out, written_app};
 
 use clap::{Arg, ArgAction, Command};
 use std::alloc::{AllocError, Global};
@@ -27,8 +28,18 @@ const STATUS: &str =
     "The status is 0 where all was done, 1 at a fault of a file or of the output, and 2 at wrong words.";
 
 /// What the help says of the word KIND.
-const KIND_HELP: &str =
-    "How ids are made: `sha1` or `sha256` [default: as the file's own digest tells]";
+const KIND_HELP: &str = "How ids are made: `sha1` or `sha256`";
+
+/// What the help says of `--auto`, where FILE has to be given.
+const AUTO_KIND: &str = "KIND may be left out: it is then as the file's own digest tells";
+
+/// What the help says of `--auto`, where FILE may be left out too.
+const AUTO_BOTH: &str =
+    "KIND may be left out (the file's own digest tells it), and FILE (that of the work tree)";
+
+/// What the help of a command that checks says that it leaves out.
+const UNCHECKED: &str =
+    "Without --strict the modes, paths and ids of entries, and paths beside their directory, aren't looked at.";
 
 /// The version of the program.
 const VERSION: &str = "0.55.0";
@@ -52,13 +63,22 @@ fn about(name: &str) -> &'static str {
     }
 }
 
-/// The usage line of a command that writes.
+/// The usage line of a command.
 fn usage(name: &str) -> &'static str {
     match name {
-        "rewrite" => "index-tool rewrite [KIND] <FILE> <OUT>",
-        "rewrite4" => "index-tool rewrite4 [KIND] <FILE> <OUT>",
-        "rewrite-trees" => "index-tool rewrite-trees [OPTIONS] [KIND] <FILE> <OUT>",
-        _ => "index-tool salvage [KIND] <FILE> <OUT>",
+        "list" => "index-tool list [OPTIONS] <KIND> <FILE>",
+        "check" => "index-tool check [OPTIONS] <KIND> <FILE>",
+        "check-trees" => "index-tool check-trees [OPTIONS] <KIND> <FILE>",
+        "map" => "index-tool map [OPTIONS] <KIND> <FILE>",
+        "map-svg" => "index-tool map-svg [OPTIONS] <KIND> <FILE>",
+        "show" => "index-tool show [OPTIONS] <KIND> <FILE>",
+        "show-json" => "index-tool show-json [OPTIONS] <KIND> <FILE>",
+        "trees" => "index-tool trees [OPTIONS] <KIND> <FILE>",
+        "rewrite" => "index-tool rewrite [OPTIONS] <KIND> <FILE> <OUT>",
+        "rewrite4" => "index-tool rewrite4 [OPTIONS] <KIND> <FILE> <OUT>",
+        "rewrite-trees" => "index-tool rewrite-trees [OPTIONS] <KIND> <FILE> <OUT>",
+        "update" => "index-tool update [OPTIONS] <KIND> <FILE>",
+        _ => "index-tool salvage [OPTIONS] <KIND> <FILE> <OUT>",
     }
 }
 
@@ -69,11 +89,25 @@ fn is_writing(name: &str) -> bool
     name == "rewrite" || name == "rewrite4" || name == "rewrite-trees" || name == "salvage"
 }
 
+/// Whether the command of this name writes an index again.
+fn is_rewriting(name: &str) -> bool
+    ensures { result ≡ is_rewriting name.now }
+{
+    name == "rewrite" || name == "rewrite4"
+}
+
 /// Whether the command of this name writes lines with paths.
 fn has_lines(name: &str) -> bool
     ensures { result ≡ has_lines name.now }
 {
     name == "list" || name == "map" || name == "trees"
+}
+
+/// Whether the command of this name checks an index.
+fn is_checking(name: &str) -> bool
+    ensures { result ≡ is_checking name.now }
+{
+    name == "check" || name == "check-trees"
 }
 
 /// An option without a value.
@@ -122,38 +156,70 @@ fn with_missing<'a>(alloc: Global, command: Command<'a>) -> Result<Command<'a>, 
     command.arg(missing.long("missing-ok"))
 }
 
-/// The command that changes an index, behind the words KIND and FILE.
-fn with_changes<'a>(alloc: Global, command: Command<'a>) -> Result<Command<'a>, AllocError>
-    ensures { Extends with_nul command.entry result }
+/// With `--keep`.
+fn with_keep<'a>(alloc: Global, command: Command<'a>) -> Result<Command<'a>, AllocError>
+    ensures { Extends with_keep command.entry result }
 {
-    let command = command.override_usage("index-tool update [OPTIONS] [KIND] <FILE>");
-    let help = "Lines of changes end with a NUL byte, and no path is quoted";
-    with_nul(alloc, command, help)
+    let keep = flag(alloc, "keep", "Keep all extensions that fit, and version 4");
+    command.arg(keep.long("keep"))
 }
 
-/// With the word OUT, and the usage that it makes.
-fn with_out<'a>(
-    alloc: Global,
-    command: Command<'a>,
-    usage: &'a str,
-) -> Result<Command<'a>, AllocError>
+/// With `--all`.
+fn with_all<'a>(alloc: Global, command: Command<'a>) -> Result<Command<'a>, AllocError>
+    ensures { Extends with_all command.entry result }
+{
+    let all = flag(
+        alloc,
+        "all",
+        "Keep also what is well formed behind the first entry at fault",
+    );
+    command.arg(all.long("all"))
+}
+
+/// With `--strict`.
+fn with_strict<'a>(alloc: Global, command: Command<'a>) -> Result<Command<'a>, AllocError>
+    ensures { Extends with_strict command.entry result }
+{
+    let strict = flag(
+        alloc,
+        "strict",
+        "Check also that git takes each entry: its mode, path and id, and its place",
+    );
+    command.arg(strict.long("strict"))
+}
+
+/// With the word OUT.
+fn with_out<'a>(alloc: Global, command: Command<'a>) -> Result<Command<'a>, AllocError>
     ensures { Extends with_out command.entry result }
 {
-    let out = Arg::new(alloc, "OUT").help("The path that is written to");
-    command.override_usage(usage).arg(out)
+    command.arg(Arg::new(alloc, "OUT").help("The path that is written to"))
 }
 
-/// With the words KIND and FILE.
+/// With `-a` or `--auto`.
+fn with_auto<'a>(
+    alloc: Global,
+    command: Command<'a>,
+    help: &'a str,
+) -> Result<Command<'a>, AllocError>
+    ensures { Extends with_auto command.entry result }
+{
+    let auto = flag(alloc, "auto", help);
+    let lettered = auto.short('a');
+    command.arg(lettered.long("auto"))
+}
+
+/// With the words KIND and FILE, and `-a` or `--auto`.
 fn with_inputs<'a>(
     alloc: Global,
     command: Command<'a>,
     file_help: &'a str,
+    auto_help: &'a str,
 ) -> Result<Command<'a>, AllocError>
     ensures { Extends with_inputs command.entry result }
 {
     let kind = Arg::new(alloc, "KIND").help(KIND_HELP);
     let file = Arg::new(alloc, "FILE").help(file_help);
-    command.arg(kind)?.arg(file)
+    with_auto(alloc, command.arg(kind)?.arg(file)?, auto_help)
 }
 
 /// The command of this name that writes, with its arguments behind the words KIND and FILE.
@@ -164,42 +230,39 @@ fn written<'a>(
 ) -> Result<Command<'a>, AllocError>
     ensures { Extends (written_app name.entry.now) command.entry result }
 {
-    let command = with_out(alloc, command, usage(name))?;
+    let command = with_out(alloc, command)?;
     if name == "rewrite-trees" {
         return with_missing(alloc, command);
     }
-    Ok(command)
+    if is_rewriting(name) {
+        return with_keep(alloc, command);
+    }
+    with_all(alloc, command)
 }
 
 /// The command of this name, with its arguments.
 pub fn command<'a>(alloc: Global, name: &'a str) -> Result<Command<'a>, AllocError>
     ensures { MakesApp (command_app name.entry.now) result }
 {
-    let command = Command::new(alloc, name).about(about(name));
+    let command = Command::new(alloc, name)
+        .about(about(name))
+        .override_usage(usage(name));
     if is_writing(name) {
-        return written(
-            alloc,
-            name,
-            with_inputs(
-                alloc,
-                command,
-                "The index that is read, or `-` for the standard input",
-            )?,
-        );
+        let file = "The index that is read, or `-` for the standard input";
+        return written(alloc, name, with_inputs(alloc, command, file, AUTO_KIND)?);
     }
     if name == UPDATE {
-        return with_changes(
-            alloc,
-            with_inputs(alloc, command, "The index that is changed")?,
-        );
+        let file = "The index that is changed";
+        let help = "Lines of changes end with a NUL byte, and no path is quoted";
+        return with_nul(alloc, with_inputs(alloc, command, file, AUTO_KIND)?, help);
     }
-    let command = with_inputs(
-        alloc,
-        command,
-        "The index, or `-` for the standard input [default: that of the work tree]",
-    )?;
+    let file = "The index, or `-` for the standard input";
+    let command = with_inputs(alloc, command, file, AUTO_BOTH)?;
     if has_lines(name) {
         return with_lines(alloc, command);
+    }
+    if is_checking(name) {
+        return with_strict(alloc, command.after_help(UNCHECKED));
     }
     Ok(command)
 }

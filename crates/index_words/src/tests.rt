@@ -8,145 +8,183 @@ use std::test::Fail;
 /// Words that end with this status, and a text that the answer has.
 type Row<'a> = (&'a [&'a str], u8, &'a str);
 
-const ANSWERS: [Row; 28] = [
+const ANSWERS: [Row; 34] = [
     (&["--help"], DONE, "Usage: index-tool <COMMAND>"),
     (&["-h"], DONE, "\n  rewrite-trees  Write the index with"),
     (&["help"], DONE, "Usage: index-tool <COMMAND>"),
     (
         &["help", "list"],
         DONE,
-        "Usage: index-tool list [OPTIONS] [KIND] [FILE]",
+        "Usage: index-tool list [OPTIONS] <KIND> <FILE>",
     ),
     (
         &["salvage", "--help"],
         DONE,
-        "Usage: index-tool salvage [KIND] <FILE> <OUT>",
+        "Usage: index-tool salvage [OPTIONS] <KIND> <FILE> <OUT>",
     ),
     (&["help", "help"], DONE, "Usage: index-tool help [COMMAND]"),
     (&["--version"], DONE, "index-tool 0.55.0\n"),
     (&["-V"], DONE, "index-tool 0.55.0\n"),
-    (&[], WRONG_WORDS, "Usage: index-tool <COMMAND>"),
+    (
+        &[],
+        WRONG_WORDS,
+        "index-tool: a command is missing (see index-tool --help)\n",
+    ),
     (
         &["lst"],
         WRONG_WORDS,
-        "unrecognized subcommand 'lst'\n\n  tip: a similar subcommand exists: 'list'",
+        "index-tool: unrecognized subcommand 'lst', did you mean 'list'?\n",
     ),
     (
         &["help", "lst"],
         WRONG_WORDS,
-        "unrecognized subcommand 'lst'",
+        "index-tool: unrecognized subcommand 'lst', did you mean 'list'?\n",
+    ),
+    (
+        &["a\nb\u{1b}"],
+        WRONG_WORDS,
+        "index-tool: unrecognized subcommand 'a\\nb\\u{1b}'\n",
     ),
     (
         &["--hlep"],
         WRONG_WORDS,
-        "unexpected argument '--hlep' found\n\n  tip: a similar argument exists: '--help'",
+        "index-tool: unexpected argument '--hlep' found, did you mean '--help'?\n",
+    ),
+    (
+        &["list"],
+        WRONG_WORDS,
+        "index-tool: KIND and FILE are missing; with --auto each may be left out, FILE in a work tree\n",
+    ),
+    (
+        &["check", "sha1"],
+        WRONG_WORDS,
+        "index-tool: FILE is missing behind KIND\n",
+    ),
+    (
+        &["list", "md5"],
+        WRONG_WORDS,
+        "index-tool: invalid value 'md5' for KIND: it is sha1 or sha256, or left out with --auto\n",
     ),
     (
         &["list", "md5", "x"],
         WRONG_WORDS,
-        "invalid value 'md5' for '[KIND]'\n  [possible values: sha1, sha256]",
+        "invalid value 'md5' for KIND",
+    ),
+    (
+        &["list", "--auto", "md5", "x"],
+        WRONG_WORDS,
+        "invalid value 'md5' for KIND",
     ),
     (
         &["list", "SHA1", "x"],
         WRONG_WORDS,
-        "invalid value 'SHA1' for '[KIND]'",
+        "invalid value 'SHA1' for KIND",
     ),
     (
         &["list", "sha1", "x", "y"],
         WRONG_WORDS,
-        "unexpected argument 'y' found\n\nUsage: index-tool list",
+        "index-tool: unexpected argument 'y' found\n",
     ),
     (
         &["list", "-z", "-z"],
         WRONG_WORDS,
-        "the argument '-z' cannot be used multiple times",
+        "index-tool: the argument '-z' cannot be used multiple times\n",
     ),
     (
         &["check", "-z", "x"],
         WRONG_WORDS,
-        "unexpected argument '-z' found",
+        "index-tool: unexpected argument '-z' found",
     ),
     (
         &["rewrite", "--missing-ok", "sha1", "x", "y"],
         WRONG_WORDS,
-        "unexpected argument '--missing-ok' found",
+        "index-tool: unexpected argument '--missing-ok' found",
+    ),
+    (
+        &["list", "--strict", "sha1", "x"],
+        WRONG_WORDS,
+        "index-tool: unexpected argument '--strict' found",
     ),
     (
         &["rewrite"],
         WRONG_WORDS,
-        "not provided:\n  <FILE>\n  <OUT>\n\nUsage: index-tool rewrite [KIND]",
+        "index-tool: KIND, FILE and OUT are missing; with --auto KIND may be left out\n",
     ),
     (
         &["rewrite4", "sha1"],
         WRONG_WORDS,
-        "not provided:\n  <FILE>\n  <OUT>\n",
+        "index-tool: FILE and OUT are missing behind KIND\n",
     ),
     (
         &["salvage", "sha1", "x"],
         WRONG_WORDS,
-        "not provided:\n  <OUT>\n\nUsage: index-tool salvage",
+        "index-tool: OUT is missing behind FILE\n",
     ),
     (
-        &["rewrite-trees", "x"],
+        &["rewrite-trees", "-a", "x"],
         WRONG_WORDS,
-        "not provided:\n  <OUT>\n",
+        "index-tool: OUT is missing behind FILE\n",
     ),
     (
-        &["rewrite", "x", "y", "z"],
+        &["rewrite", "x", "y"],
         WRONG_WORDS,
-        "invalid value 'x' for '[KIND]'",
+        "invalid value 'x' for KIND",
     ),
     (
-        &["rewrite", "x", "-"],
+        &["rewrite", "-a", "x", "-"],
         WRONG_WORDS,
-        "invalid value '-' for '<OUT>'",
+        "index-tool: invalid value '-' for OUT: it is the path of a file, as `./-` is\n",
     ),
     (
         &["update", "sha1"],
         WRONG_WORDS,
-        "not provided:\n  <FILE>\n\nUsage: index-tool update [OPTIONS] [KIND] <FILE>",
+        "index-tool: FILE is missing behind KIND\n",
     ),
     (
         &["update", "x", "y"],
         WRONG_WORDS,
-        "invalid value 'x' for '[KIND]'",
+        "invalid value 'x' for KIND",
     ),
     (
         &["update", "sha1", "-"],
         WRONG_WORDS,
-        "invalid value '-' for '<FILE>'",
+        "index-tool: invalid value '-' for FILE: the standard input has the changes\n",
     ),
     (
         &["rewrite", "sha1", "x", "y", "z"],
         WRONG_WORDS,
-        "unexpected argument 'z' found",
+        "index-tool: unexpected argument 'z' found\n",
     ),
 ];
 
 /// Words that are a command.
-const COMMANDS: [(&[&str], &str); 14] = [
+const COMMANDS: [(&[&str], &str); 20] = [
     (
         &["list", "sha1", "x"],
         "Some(Read { what: List(Lines { nul: false, quote: false }), kind: Some(Sha1), input: Some(File(\"x\")) })",
     ),
     (
-        &["list"],
+        &["list", "--auto"],
         "Some(Read { what: List(Lines { nul: false, quote: false }), kind: None, input: None })",
     ),
     (
-        &["map", "x"],
+        &["map", "-a", "x"],
         "Some(Read { what: Map(Lines { nul: false, quote: false }), kind: None, input: Some(File(\"x\")) })",
     ),
     (
-        &["show", "sha256"],
+        &["show", "-a", "sha256"],
         "Some(Read { what: Show, kind: Some(Sha256), input: None })",
     ),
     (
-        &["check", "./sha1"],
-        "Some(Read { what: Check, kind: None, input: Some(File(\"./sha1\")) })",
+        &["check", "./sha1", "-a"],
+        "Some(Read { what: Check { strict: false }, kind: None, input: Some(File(\"./sha1\")) })",
     ),
     (
-        &["show-json", "-"],
+        &["check", "--strict", "sha1", "x"],
+        "Some(Read { what: Check { strict: true }, kind: Some(Sha1), input: Some(File(\"x\")) })",
+    ),
+    (
+        &["show-json", "--auto", "-"],
         "Some(Read { what: ShowJson, kind: None, input: Some(Stdin) })",
     ),
     (
@@ -154,20 +192,36 @@ const COMMANDS: [(&[&str], &str); 14] = [
         "Some(Read { what: MapSvg, kind: Some(Sha1), input: Some(Stdin) })",
     ),
     (
-        &["trees", "-z", "x", "--quote"],
+        &["map-svg", "--auto", "sha1", "-"],
+        "Some(Read { what: MapSvg, kind: Some(Sha1), input: Some(Stdin) })",
+    ),
+    (
+        &["trees", "-az", "x", "--quote"],
         "Some(Read { what: Trees(Lines { nul: true, quote: true }), kind: None, input: Some(File(\"x\")) })",
     ),
     (
-        &["check-trees", "--", "-z"],
-        "Some(Read { what: CheckTrees, kind: None, input: Some(File(\"-z\")) })",
+        &["check-trees", "sha1", "--", "-z"],
+        "Some(Read { what: CheckTrees { strict: false }, kind: Some(Sha1), input: Some(File(\"-z\")) })",
+    ),
+    (
+        &["check-trees", "-a", "x", "--strict"],
+        "Some(Read { what: CheckTrees { strict: true }, kind: None, input: Some(File(\"x\")) })",
     ),
     (
         &["rewrite", "sha1", "x", "y"],
-        "Some(Write { what: Rewrite, kind: Some(Sha1), input: File(\"x\"), to: \"y\" })",
+        "Some(Write { what: Rewrite { keep: false }, kind: Some(Sha1), input: File(\"x\"), to: \"y\" })",
     ),
     (
-        &["rewrite4", "x", "y"],
-        "Some(Write { what: Rewrite4, kind: None, input: File(\"x\"), to: \"y\" })",
+        &["rewrite", "--keep", "sha1", "x", "y"],
+        "Some(Write { what: Rewrite { keep: true }, kind: Some(Sha1), input: File(\"x\"), to: \"y\" })",
+    ),
+    (
+        &["rewrite4", "-a", "x", "y"],
+        "Some(Write { what: Rewrite4 { keep: false }, kind: None, input: File(\"x\"), to: \"y\" })",
+    ),
+    (
+        &["rewrite4", "sha1", "x", "y", "--keep"],
+        "Some(Write { what: Rewrite4 { keep: true }, kind: Some(Sha1), input: File(\"x\"), to: \"y\" })",
     ),
     (
         &["rewrite-trees", "--missing-ok", "sha256", "x", "y"],
@@ -179,7 +233,11 @@ const COMMANDS: [(&[&str], &str); 14] = [
     ),
     (
         &["salvage", "sha256", "-", "y"],
-        "Some(Write { what: Salvage, kind: Some(Sha256), input: Stdin, to: \"y\" })",
+        "Some(Write { what: Salvage { all: false }, kind: Some(Sha256), input: Stdin, to: \"y\" })",
+    ),
+    (
+        &["salvage", "--all", "sha1", "x", "y"],
+        "Some(Write { what: Salvage { all: true }, kind: Some(Sha1), input: File(\"x\"), to: \"y\" })",
     ),
 ];
 

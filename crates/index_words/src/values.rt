@@ -11,7 +11,10 @@ ghost use Rattle.index_words.specs.Meaning.{change_meant, meant, on_three, on_tw
 
 use crate::answer::Answer;
 use crate::command::{Command, Input, Reading, Writing};
-use crate::refusal::{NO_COMMAND, missing, no_file, no_kind, no_out, refusal};
+use crate::refusal::{
+    NO_CHANGED, NO_COMMAND, NO_FILE, NO_FILE_AND_OUT, NO_INPUT, NO_OUT, NO_WORDS, missing, no_file,
+    no_kind, no_out, refusal,
+};
 use crate::table::UPDATE;
 use clap::ArgMatches;
 use clap::error::ErrorKind;
@@ -72,10 +75,11 @@ fn lines_of(given: &ArgMatches<'_>) -> Lines
 fn reading_of(name: &str, given: &ArgMatches<'_>) -> Option<Reading>
     ensures { result ≡ reading_named name.now (rows_of (found_of given.now)) }
 {
+    let strict = is_set(given, "strict");
     match name {
         "list" => Some(Reading::List(lines_of(given))),
-        "check" => Some(Reading::Check),
-        "check-trees" => Some(Reading::CheckTrees),
+        "check" => Some(Reading::Check { strict }),
+        "check-trees" => Some(Reading::CheckTrees { strict }),
         "map" => Some(Reading::Map(lines_of(given))),
         "map-svg" => Some(Reading::MapSvg),
         "show" => Some(Reading::Show),
@@ -89,39 +93,47 @@ fn reading_of(name: &str, given: &ArgMatches<'_>) -> Option<Reading>
 fn writing_of(name: &str, given: &ArgMatches<'_>) -> Option<Writing>
     ensures { result ≡ writing_named name.now (rows_of (found_of given.now)) }
 {
+    let keep = is_set(given, "keep");
     match name {
-        "rewrite" => Some(Writing::Rewrite),
-        "rewrite4" => Some(Writing::Rewrite4),
+        "rewrite" => Some(Writing::Rewrite { keep }),
+        "rewrite4" => Some(Writing::Rewrite4 { keep }),
         "rewrite-trees" => Some(Writing::RewriteTrees {
             missing_ok: is_set(given, "missing-ok"),
         }),
-        "salvage" => Some(Writing::Salvage),
+        "salvage" => Some(Writing::Salvage {
+            all: is_set(given, "all"),
+        }),
         _ => None,
     }
 }
 
-/// The command of the words [KIND] [FILE] behind this name.
+/// The command of the words KIND FILE behind this name. With `auto` each may be left out.
 fn read_of<'a>(
     alloc: Global,
     name: &str,
+    auto: bool,
     what: Reading,
     first: Option<&'a str>,
     second: Option<&'a str>,
 ) -> Result<Command<'a>, Answer>
-    ensures { IsMeant (on_two (read_meant what) first.entry second.entry) result }
+    ensures { IsMeant (on_two auto (read_meant auto what) first.entry second.entry) result }
 {
     let Some(first) = first else {
-        return Ok(Command::Read {
-            what,
-            kind: None,
-            input: None,
-        });
+        if auto {
+            return Ok(Command::Read {
+                what,
+                kind: None,
+                input: None,
+            });
+        }
+        return Err(missing(alloc, name, NO_INPUT));
     };
     let kind = kind_of(first);
-    let input = match (kind, second) {
-        (Some(_), second) => second,
-        (None, None) => Some(first),
-        (None, Some(_)) => return Err(no_kind(alloc, name, first)),
+    let input = match (kind, second, auto) {
+        (Some(_), None, false) => return Err(missing(alloc, name, NO_FILE)),
+        (Some(_), second, _) => second,
+        (None, None, true) => Some(first),
+        (None, _, _) => return Err(no_kind(alloc, name, first)),
     };
     Ok(Command::Read {
         what,
@@ -130,27 +142,31 @@ fn read_of<'a>(
     })
 }
 
-/// The command of the words [KIND] FILE OUT behind this name.
+/// The command of the words KIND FILE OUT behind this name. With `auto` KIND may be left out.
 fn write_of<'a>(
     alloc: Global,
     name: &str,
+    auto: bool,
     what: Writing,
     first: Option<&'a str>,
     second: Option<&'a str>,
     third: Option<&'a str>,
 ) -> Result<Command<'a>, Answer>
-    ensures { IsMeant (on_three (write_meant what) first.entry second.entry third.entry) result }
+    ensures { IsMeant (on_three auto (write_meant what) first.entry second.entry third.entry)
+        result }
 {
     let Some(first) = first else {
-        return Err(missing(alloc, name, "<FILE>\n  <OUT>"));
+        return Err(missing(alloc, name, NO_WORDS));
     };
     let kind = kind_of(first);
-    let (word, to) = match (kind, second, third) {
-        (Some(_), None, _) => return Err(missing(alloc, name, "<FILE>\n  <OUT>")),
-        (Some(_), Some(_), None) | (None, None, _) => return Err(missing(alloc, name, "<OUT>")),
-        (None, Some(_), Some(_)) => return Err(no_kind(alloc, name, first)),
-        (Some(_), Some(word), Some(to)) => (word, to),
-        (None, Some(to), None) => (first, to),
+    let (word, to) = match (kind, second, third, auto) {
+        (Some(_), None, _, _) => return Err(missing(alloc, name, NO_FILE_AND_OUT)),
+        (Some(_), Some(_), None, _) | (None, None, _, true) => {
+            return Err(missing(alloc, name, NO_OUT));
+        }
+        (Some(_), Some(word), Some(to), _) => (word, to),
+        (None, Some(to), None, true) => (first, to),
+        (None, _, _, _) => return Err(no_kind(alloc, name, first)),
     };
     if to == "-" {
         return Err(no_out(alloc, name));
@@ -163,25 +179,26 @@ fn write_of<'a>(
     })
 }
 
-/// The command of the words [KIND] FILE behind this name.
+/// The command of the words KIND FILE behind this name. With `auto` KIND may be left out.
 fn update_of<'a>(
     alloc: Global,
     name: &str,
+    auto: bool,
     nul: bool,
     first: Option<&'a str>,
     second: Option<&'a str>,
 ) -> Result<Command<'a>, Answer>
-    ensures { IsMeant (on_two (change_meant nul) first.entry second.entry) result }
+    ensures { IsMeant (on_two auto (change_meant nul) first.entry second.entry) result }
 {
     let Some(first) = first else {
-        return Err(missing(alloc, name, "<FILE>"));
+        return Err(missing(alloc, name, NO_CHANGED));
     };
     let kind = kind_of(first);
-    let word = match (kind, second) {
-        (Some(_), None) => return Err(missing(alloc, name, "<FILE>")),
-        (Some(_), Some(word)) => word,
-        (None, None) => first,
-        _ => return Err(no_kind(alloc, name, first)),
+    let word = match (kind, second, auto) {
+        (Some(_), None, _) => return Err(missing(alloc, name, NO_FILE)),
+        (Some(_), Some(word), _) => word,
+        (None, None, true) => first,
+        (None, _, _) => return Err(no_kind(alloc, name, first)),
     };
     if word == "-" {
         return Err(no_file(alloc, name));
@@ -202,13 +219,22 @@ pub fn command_of<'a>(
 ) -> Result<Command<'a>, Answer>
     ensures { IsMeant (meant name.now (rows_of (found_of given.now))) result }
 {
+    let auto = is_set(given, "auto");
     let (first, second) = (word_of(given, "KIND"), word_of(given, "FILE"));
     if let Some(what) = reading_of(name, given) {
-        return read_of(alloc, name, what, first, second);
+        return read_of(alloc, name, auto, what, first, second);
     }
     match writing_of(name, given) {
-        Some(what) => write_of(alloc, name, what, first, second, word_of(given, "OUT")),
-        None if name == UPDATE => update_of(alloc, name, is_set(given, "z"), first, second),
+        Some(what) => write_of(
+            alloc,
+            name,
+            auto,
+            what,
+            first,
+            second,
+            word_of(given, "OUT"),
+        ),
+        None if name == UPDATE => update_of(alloc, name, auto, is_set(given, "z"), first, second),
         None => Err(refusal(alloc, name, ErrorKind::InvalidSubcommand, NO_COMMAND)),
     }
 }

@@ -45,9 +45,11 @@ fn help(alloc: Global, given: &ArgMatches<'_>) -> Answer
 
 /// The command that the words behind the program's name are, or what is said in its place.
 ///
-/// The words are those of `index-tool --help`: a command's name and, in any order with its options, [KIND] [FILE]
-/// where it tells something, [KIND] FILE OUT where it writes, and [KIND] FILE where it changes FILE. A first word that is `sha1` or `sha256` is the KIND,
-/// and FILE may be `-` for the standard input; `./sha1` and `./-` are files of these names. Nothing is opened or printed.
+/// The words are those of `index-tool --help`: a command's name and, in any order with its options, KIND FILE where it
+/// tells something or changes FILE, and KIND FILE OUT where it writes. KIND is `sha1` or `sha256`. None of them may be
+/// left out. With `--auto` KIND may be left out, and where a command tells something FILE too: a first word that names no
+/// kind is FILE then. FILE may be `-` for the standard input; `./sha1` and `./-` are files of these names. Nothing is
+/// opened or printed.
 pub fn parse<'a, S: AsStr>(alloc: Global, words: &'a [S]) -> Result<Command<'a>, Answer>
     ensures { IsMeant (meaning (map S.text words.now)) result }
 {

@@ -1,4 +1,5 @@
-//! Whether entries and resolve-undo are read again as they were written (gitformat-index, "Index entry", "Resolve undo").
+//! Whether entries, the cached tree and resolve-undo are read again as they were written (gitformat-index, "Index
+//! entry", "Cache tree", "Resolve undo").
 
 ghost use Rattle.std.specs.Prelude.{◌≡◌, ◌↔◌, All, IfSome, IsTrue, length, map};
 ghost use Rattle.std.specs.Option.{option_map};
@@ -7,13 +8,11 @@ ghost use Rattle.index_cached_tree.specs.Tree.{node_of};
 ghost use Rattle.index_entries.specs.Record.{records_in, with_path};
 ghost use Rattle.index_entries.specs.Storable.{IsPlain, IsStorableIn};
 ghost use Rattle.index_extension_writing.specs.ResolveUndoImage.{AreSpellablePaths, IsSpellablePath, IsSpellableStage};
-ghost use Rattle.index_format.specs.Outcome.{outcome_of};
 ghost use Rattle.index_small_extensions.specs.ResolveUndo.{path_stages};
 
 use index_cached_tree::Tree;
 use index_entries::paths::lacks_nul;
 use index_entries::{Entry, PathStorageRef, Pathless};
-use index_format::extension::Outcome;
 use index_parts::hash::Kind;
 use index_small_extensions::resolve_undo::{Paths, ResolvePath, Stage};
 
@@ -96,8 +95,9 @@ fn are_spellable(paths: &[ResolvePath], kind: Kind) -> bool
     is_each_spellable(paths, kind)
 }
 
-/// Whether bytes can hold a cached tree with ids of this kind; true where there is none.
-fn is_tree_storable(tree: &Option<Tree>, kind: Kind) -> bool
+/// Whether bytes can hold a cached tree with ids of this kind; true where there is none. No memory is taken. Time goes
+/// with the tree, as [`Tree::is_storable`] says.
+pub fn is_tree_storable(tree: &Option<Tree>, kind: Kind) -> bool
     ensures { IsTrue result ↔ IfSome (option_map node_of tree.now) (IsStorableTree kind) }
 {
     match tree {
@@ -106,8 +106,9 @@ fn is_tree_storable(tree: &Option<Tree>, kind: Kind) -> bool
     }
 }
 
-/// The same of resolve-undo.
-fn is_undo_storable(paths: &Option<Paths>, kind: Kind) -> bool
+/// Whether bytes can hold resolve-undo with ids of this kind; true where there is none. No memory is taken. Time goes
+/// with its paths and their bytes.
+pub fn is_undo_spellable(paths: &Option<Paths>, kind: Kind) -> bool
     ensures { IsTrue result
         ↔ IfSome (option_map (λ it. map path_stages it.items) paths.now) (AreSpellablePaths kind) }
 {
@@ -115,13 +116,4 @@ fn is_undo_storable(paths: &Option<Paths>, kind: Kind) -> bool
         return true;
     };
     are_spellable(paths, kind)
-}
-
-/// Whether bytes can hold the cached tree and resolve-undo in a file with ids of this kind, where they are there. No
-/// memory is taken. Time goes with them, as [`Tree::is_storable`] says of the tree.
-pub fn are_extensions_storable(extensions: &Outcome, kind: Kind) -> bool
-    ensures { IsTrue result ↔ IfSome (outcome_of extensions.now).tree (IsStorableTree kind)
-        × IfSome (outcome_of extensions.now).resolve_undo (AreSpellablePaths kind) }
-{
-    is_tree_storable(&extensions.tree, kind) && is_undo_storable(&extensions.resolve_undo, kind)
 }

@@ -5,9 +5,11 @@
 #![tactic(auto)]
 
 mod edits;
+mod files;
 mod images;
 mod merges;
 mod objects;
+mod parts;
 mod trees;
 mod worktree;
 mod written_trees;
@@ -28,6 +30,9 @@ impl Answer for Rows {
             "stat" => worktree::stat(out, words),
             "entry-time" => worktree::entry_time(out, words),
             "file-time" => worktree::file_time(out, words),
+            "compare-times" => worktree::compare_times(out, words),
+            "tree-mode" => worktree::tree_mode(out, words),
+            "verify-bytes" => files::verify_bytes(out, words),
             "sparse-mark" => images::sparse_mark(out),
             _ => answer_index(call, words, out),
         }
@@ -49,6 +54,9 @@ fn answer_index(call: &str, words: &mut Words<'_>, out: &mut Lines) -> Result<()
         "end-marker" => images::end_marker(out, kind, words),
         "write-tree" => images::tree(out, kind, words),
         "merge" => merges::merge(out, kind, words),
+        "take-link" => parts::take_link(out, kind, words),
+        "set-version" => parts::set_version(out, kind, words),
+        "write-file" => files::write_file(out, kind, words),
         _ => Err(Fault::Wrong("the name of a call")),
     }
 }

@@ -5,7 +5,7 @@ use gix_index::entry::mode::Change;
 use gix_index::entry::stat::{Options, Time};
 use gix_index::entry::{FileTime, Mode, Stat};
 use gix_index::fs::{FileKind, Metadata};
-use test_row_kit::show::{FileSeconds, OrNone, Seconds, StatNumbers, yes};
+use test_row_kit::show::{FileSeconds, OrNone, Seconds, StatNumbers, sign_of, yes};
 use test_row_kit::{Fault, Lines, Words};
 
 /// The kind of a file.
@@ -124,5 +124,23 @@ pub fn entry_time(out: &mut Lines, words: &mut Words<'_>) -> Result<(), Fault> {
 /// `file-time`: an entry's time as a file's.
 pub fn file_time(out: &mut Lines, words: &mut Words<'_>) -> Result<(), Fault> {
     out.put("time", FileSeconds(FileTime::from(words.time()?)));
+    Ok(())
+}
+
+/// `compare-times`: how an entry's time stands to a file's.
+pub fn compare_times(out: &mut Lines, words: &mut Words<'_>) -> Result<(), Fault> {
+    let time = words.time()?;
+    let order = time.cmp_file_time(words.file_time()?);
+    out.put("cmp_file_time", OrNone(order.map(sign_of)));
+    Ok(())
+}
+
+/// `tree-mode`: the mode that a tree has in place of an entry's.
+pub fn tree_mode(out: &mut Lines, words: &mut Words<'_>) -> Result<(), Fault> {
+    let mode = Mode::from_bits_retain(words.octal()?);
+    match mode.to_tree_entry_mode() {
+        Some(mode) => writeln!(out, "to_tree_entry_mode: {:o}", mode.value()),
+        None => out.put("to_tree_entry_mode", "none"),
+    }
     Ok(())
 }

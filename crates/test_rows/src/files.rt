@@ -2,7 +2,6 @@
 
 use crate::show;
 use gix_index::entry::FileTime;
-use gix_index::file::System;
 use gix_index::file::init::Error;
 use gix_index::hash::Kind;
 use gix_index::{File, decode};
@@ -36,9 +35,9 @@ fn read(
 ) -> Result<File, Error> {
     let (time, options) = (FileTime::EPOCH, decode::Options::default());
     if or_default {
-        return File::at_or_default(&System { rt }, alloc, path, kind, false, time, options);
+        return File::at_or_default(rt, alloc, path, kind, false, time, options);
     }
-    File::at(&System { rt }, alloc, path, kind, false, time, options)
+    File::at(rt, alloc, path, kind, false, time, options)
 }
 
 /// The refusal, with the name of a file that can't be read.

@@ -1,7 +1,7 @@
 //! A file that is looked at again after the index was written to it, and one whose lock another holds.
 
 use gix_index::entry::{FileTime, Flags, Mode, Stage, Stat};
-use gix_index::file::{System, verify, write};
+use gix_index::file::{verify, write};
 use gix_index::hash::{Kind, ObjectId};
 use gix_index::write::Options;
 use gix_index::{File, State};
@@ -19,18 +19,25 @@ fn file_of(alloc: Global, path: &str) -> Result<File, AllocError> {
     Ok(File::from_state(state, PathBuf::from_str(alloc, path)?))
 }
 
-/// Whether the index is written to its file.
-fn is_written(rt: &HostRuntime, file: &mut File, skip_hash: bool) -> bool {
+/// What is told of an index that is written to its file.
+fn write_told(rt: &HostRuntime, file: &mut File, skip_hash: bool) -> &'static str {
     let options = Options {
         skip_hash,
         ..Options::default()
     };
-    file.write(&mut System { rt }, rt.alloc(), options).is_ok()
+    match file.write(rt, rt.alloc(), options) {
+        Ok(()) => "written",
+        Err(write::Error::AcquireLock(_)) => "no lock",
+        Err(write::Error::Io(_)) => "no bytes in the lock",
+        Err(write::Error::CommitLock(_)) => "no place for the lock",
+        Err(write::Error::Memory) => "no memory",
+        Err(_) => "no such index",
+    }
 }
 
 /// Whether the bytes in a file of these bytes are those of the checksum.
 fn verify_told(rt: &HostRuntime, file: &File) -> &'static str {
-    match file.verify_integrity(&System { rt }, rt.alloc()) {
+    match file.verify_integrity(rt, rt.alloc()) {
         Ok(()) => "intact",
         Err(verify::Error::Io(_)) => "no file",
         Err(verify::Error::TooShort) => "too short",
@@ -42,7 +49,7 @@ fn verify_told(rt: &HostRuntime, file: &File) -> &'static str {
 #[test]
 fn a_file_is_verified(rt: HostRuntime) -> Result<(), Fail> {
     let mut file = file_of(rt.alloc(), "verified")?;
-    assert!(rt; is_written(&rt, &mut file, false));
+    assert_eq!(rt; write_told(&rt, &mut file, false), "written");
     assert_eq!(rt; verify_told(&rt, &file), "intact");
     fs::write(&rt, "verified", [0; 20].as_slice())?;
     assert_eq!(rt; verify_told(&rt, &file), "changed");
@@ -50,7 +57,7 @@ fn a_file_is_verified(rt: HostRuntime) -> Result<(), Fail> {
     assert_eq!(rt; verify_told(&rt, &file), "too short");
     fs::remove_file(&rt, "verified")?;
     assert_eq!(rt; verify_told(&rt, &file), "no file");
-    assert!(rt; is_written(&rt, &mut file, true));
+    assert_eq!(rt; write_told(&rt, &mut file, true), "written");
     assert_eq!(rt; file.checksum(), None);
     fs::remove_file(&rt, "verified")?;
     assert_eq!(rt; verify_told(&rt, &file), "intact");
@@ -62,8 +69,7 @@ fn a_held_lock_changes_nothing(rt: HostRuntime) -> Result<(), Fail> {
     let mut file = file_of(rt.alloc(), "held")?;
     let before = file.clone()?;
     fs::write(&rt, "held.lock", b"".as_slice())?;
-    let answer = file.write(&mut System { rt: &rt }, rt.alloc(), Options::default());
-    assert!(rt; matches!(answer, Err(write::Error::AcquireLock(_))));
+    assert_eq!(rt; write_told(&rt, &mut file, false), "no lock");
     assert!(rt; file.entries() == before.entries());
     assert_eq!(rt; file.version(), before.version());
     assert_eq!(rt; file.checksum(), None);

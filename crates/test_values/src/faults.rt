@@ -1,7 +1,7 @@
 //! Locking, writing and reading over a folder in memory, of which each step fails in turn.
 
 use gix_index::entry::{FileTime, Flags, Mode, Stage, Stat};
-use gix_index::file::init;
+use gix_index::file::{init, write};
 use gix_index::hash::{Kind, ObjectId};
 use gix_index::write::Options;
 use gix_index::{File, State, decode};
@@ -39,11 +39,32 @@ enum Call {
     Write,
 }
 
+/// What is told of a call.
+#[derive(Clone, Copy, Debug, PartialEq, Eq)]
+enum Told {
+    /// The index is replaced.
+    Replaced,
+    /// It isn't.
+    Kept,
+    /// It isn't, as its lock can't be made.
+    NoLock,
+    /// It isn't, as its lock can't be written.
+    NoBytes,
+    /// It isn't, as its lock can't take its place.
+    NoPlace,
+}
+
 /// How often a call was tried with a fault, and what it left.
 #[derive(Clone, Copy, Debug, Default, PartialEq, Eq)]
 struct Tally {
     /// How often the index wasn't replaced.
     kept: u32,
+    /// How often it was told that its lock can't be made.
+    unmade: u32,
+    /// How often it was told that its lock can't be written.
+    unwritten: u32,
+    /// How often it was told that its lock can't take its place.
+    unmoved: u32,
     /// How often a lock stayed.
     locks: u32,
     /// How often the index was neither as before, where it wasn't replaced, nor else as it was to become.
@@ -52,8 +73,16 @@ struct Tally {
 
 impl Tally {
     /// Counts what one try left.
-    fn count(&mut self, is_kept: bool, is_locked: bool, is_torn: bool) {
-        self.kept = self.kept.saturating_add(u32::from(is_kept));
+    fn count(&mut self, told: Told, is_locked: bool, is_torn: bool) {
+        let place = match told {
+            Told::NoLock => &mut self.unmade,
+            Told::NoBytes => &mut self.unwritten,
+            _ => &mut self.unmoved,
+        };
+        if !matches!(told, Told::Replaced | Told::Kept) {
+            *place = place.saturating_add(1);
+        }
+        self.kept = self.kept.saturating_add(u32::from(told != Told::Replaced));
         self.locks = self.locks.saturating_add(u32::from(is_locked));
         self.torn = self.torn.saturating_add(u32::from(is_torn));
     }
@@ -73,22 +102,28 @@ fn file_of(alloc: Global, flags: Flags) -> Result<File, AllocError> {
     Ok(File::from_state(state, PathBuf::from_str(alloc, "index")?))
 }
 
-/// Whether an index with these flags is written to its file.
-fn is_written(shelf: &mut Shelf<'_>, alloc: Global, flags: Flags, options: Options) -> bool {
+/// What is told of an index with these flags that is written to its file.
+fn write_told(shelf: &mut Shelf<'_>, alloc: Global, flags: Flags, options: Options) -> Told {
     let Ok(mut file) = file_of(alloc, flags) else {
-        return false;
+        return Told::Kept;
     };
-    file.write(shelf, alloc, options).is_ok()
+    match file.write_in(shelf, alloc, options) {
+        Ok(()) => Told::Replaced,
+        Err(write::Error::AcquireLock(_)) => Told::NoLock,
+        Err(write::Error::Io(_)) => Told::NoBytes,
+        Err(write::Error::CommitLock(_)) => Told::NoPlace,
+        Err(_) => Told::Kept,
+    }
 }
 
-/// Whether the index, which is locked and changed, is committed.
-fn is_committed(shelf: &mut Shelf<'_>, alloc: Global, is_wanted: bool) -> bool {
+/// What is told of the index, which is locked, changed, and committed or released.
+fn commit_told(shelf: &mut Shelf<'_>, alloc: Global, is_wanted: bool) -> Told {
     let Ok(path) = PathBuf::from_str(alloc, "index") else {
-        return false;
+        return Told::Kept;
     };
     let options = decode::Options::default();
     let Ok(mut locked) = File::lock(shelf, alloc, path, Kind::Sha1, false, options, false) else {
-        return false;
+        return Told::Kept;
     };
     locked.file.set_timestamp(at(3));
     for entry in locked.file.entries_mut() {
@@ -96,19 +131,20 @@ fn is_committed(shelf: &mut Shelf<'_>, alloc: Global, is_wanted: bool) -> bool {
     }
     if !is_wanted {
         locked.release(shelf);
-        return false;
+        return Told::Kept;
     }
-    locked
-        .commit(shelf, alloc, Options::default(), true)
-        .is_ok()
+    match locked.commit(shelf, alloc, Options::default(), true) {
+        Ok(_) => Told::Replaced,
+        Err(_) => Told::Kept,
+    }
 }
 
-/// Whether the index is replaced.
-fn is_replaced(call: Call, shelf: &mut Shelf<'_>, alloc: Global) -> bool {
+/// What is told of a call.
+fn call_told(call: Call, shelf: &mut Shelf<'_>, alloc: Global) -> Told {
     match call {
-        Call::Commit => is_committed(shelf, alloc, true),
-        Call::Release => is_committed(shelf, alloc, false),
-        Call::Write => is_written(shelf, alloc, NEW, Options::default()),
+        Call::Commit => commit_told(shelf, alloc, true),
+        Call::Release => commit_told(shelf, alloc, false),
+        Call::Write => write_told(shelf, alloc, NEW, Options::default()),
     }
 }
 
@@ -149,14 +185,14 @@ fn tried(
             },
         };
         let mut shelf = shelf_with(alloc, steps, old)?;
-        let is_new = is_replaced(call, &mut shelf, alloc);
-        let is_whole = if is_new {
+        let told = call_told(call, &mut shelf, alloc);
+        let is_whole = if told == Told::Replaced {
             is_as(&shelf, new, at(changed))
         } else {
             is_as(&shelf, old, at(1))
         };
         let is_locked = shelf.file(Path::new("index.lock")).is_some();
-        tally.count(!is_new, is_locked, !is_whole);
+        tally.count(told, is_locked, !is_whole);
         if taken.get() < step {
             break;
         }
@@ -172,7 +208,7 @@ fn bytes_of(alloc: Global, flags: Flags, options: Options) -> Result<Vec<u8>, Al
         fault: Fault::Never,
     };
     let mut shelf = shelf_with(alloc, steps, b"")?;
-    is_written(&mut shelf, alloc, flags, options);
+    write_told(&mut shelf, alloc, flags, options);
     match shelf.file(Path::new("index")) {
         Some(kept) => kept.bytes.clone(),
         None => Ok(Vec::new(alloc)),
@@ -218,7 +254,7 @@ fn read_split(alloc: Global, shared: &[u8]) -> Result<Refusals, AllocError> {
         let bytes = shared.to_vec(alloc)?;
         shelf.keep(Path::new(SHARED), Kept { bytes, time: at(1) })?;
         let path = PathBuf::from_str(alloc, "index")?;
-        match File::at(&shelf, alloc, path, Kind::Sha1, false, at(1), options) {
+        match File::at_in(&shelf, alloc, path, Kind::Sha1, false, at(1), options) {
             Ok(file) => {
                 refusals.entries = file.entries().len();
                 break;
@@ -236,16 +272,19 @@ fn no_fault_tears_an_index(rt: HostRuntime) -> Result<(), Fail> {
     let new = bytes_of(alloc, NEW, Options::default())?;
     // (a fault that lasts from the step behind the making of a lock on keeps that from being removed)
     let wanted = [
-        (Call::Commit, false, 17, 0),
-        (Call::Commit, true, 18, 16),
-        (Call::Release, false, 15, 1),
-        (Call::Release, true, 15, 12),
-        (Call::Write, false, 3, 0),
-        (Call::Write, true, 3, 2),
+        (Call::Commit, false, 17, 0, 0),
+        (Call::Commit, true, 18, 0, 16),
+        (Call::Release, false, 15, 0, 1),
+        (Call::Release, true, 15, 0, 12),
+        (Call::Write, false, 3, 1, 0),
+        (Call::Write, true, 3, 1, 2),
     ];
-    for (call, lasts, kept, locks) in wanted {
+    for (call, lasts, kept, named, locks) in wanted {
         let tally = Tally {
             kept,
+            unmade: named,
+            unwritten: named,
+            unmoved: named,
             locks,
             torn: 0,
         };

@@ -86,6 +86,21 @@ fn a_plain_writer_takes_a_front(rt: HostRuntime) {
 }
 
 #[test]
+fn a_writer_that_failed_once_has_failed(rt: HostRuntime) {
+    let taken = Vec::new(rt.alloc());
+    let mut out = Plain::new(Slow {
+        taken,
+        step: 1,
+        room: 0,
+    });
+    for (room, is_whole, has_failed) in [(1, true, false), (1, false, true), (2, true, true)] {
+        out.inner.room = room;
+        assert_eq!(rt; out.put(b"a").is_ok(), is_whole, "up to {room}");
+        assert_eq!(rt; out.has_failed(), has_failed, "up to {room}");
+    }
+}
+
+#[test]
 fn whole_pieces_are_hashed(rt: HostRuntime) {
     for (kind, room, hashed) in [
         (Kind::Sha1, 0, b"".as_slice()),

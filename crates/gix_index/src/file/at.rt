@@ -12,12 +12,14 @@ ghost use Rattle.gix_index.specs.ReadFile.{SaysOfFinding, SaysOfFollowing, SaysO
 ghost use Rattle.index_state.specs.State.{IsWellFormed};
 ghost use Rattle.gix_index.specs.OnDisk.{FindsIn, IsSharedPath, LoadsIn, OpensIn, ReadsIn, SaysOfFindingIn};
 ghost use Rattle.gix_index.specs.OnDisk.{SaysOfFollowingIn, SaysOfSharedIn};
+ghost use Rattle.gix_index.specs.OnSystem.{LoadsOnSystem, LoadsTelling, ReadsOnSystem, ReadsTelling};
 
 use super::File;
 use super::init::Error;
 use super::split::take_followed_link;
 use super::unfollowed::{read_fault, read_file};
 use index_folder::folder::{Folder, Source};
+use index_folder::system::System;
 use index_format::decode;
 use index_metadata::entry::FileTime;
 use index_parts::hash::{Kind, ObjectId};
@@ -27,6 +29,7 @@ use std::alloc::{AllocError, Global};
 use std::io;
 use std::io::ErrorKind;
 use std::path::{Path, PathBuf};
+use std::rt::Files;
 
 /// The path of the shared index with this id (gitformat-index, "Split index"): in the folder of the split one, whose
 /// path is given, it is named `sharedindex.` with the id in lower-case base 16. An error is want of memory.
@@ -139,8 +142,51 @@ pub(super) fn read_from<D: Folder>(
     follow(folder, alloc, read.index, reading)
 }
 
+/// What [`File::at_in`] answers, with a fault as a type of the caller's. The texts of [`Error`] are `'static`. The
+/// toolchain proves no call over [`System`], a generic type with a lifetime, of a function whose signature has `'static`.
+fn at_telling<D: Folder, E: From<Error> + Drop>(
+    folder: &D,
+    alloc: Global,
+    path: PathBuf,
+    reading: ReadOptions,
+) -> Result<File, E>
+    ensures { ReadsTelling D.Folder folder.now E.from_gives path reading result }
+{
+    let ReadOptions {
+        object_hash: kind,
+        skip_hash,
+        timestamp,
+        options,
+    } = reading;
+    match File::at_in(folder, alloc, path, kind, skip_hash, timestamp, options) {
+        Ok(file) => Ok(file),
+        Err(e) => Err(E::from(e)),
+    }
+}
+
+/// What [`File::at_or_default_in`] answers, in the same way.
+fn default_telling<D: Folder, E: From<Error> + Drop>(
+    folder: &D,
+    alloc: Global,
+    path: PathBuf,
+    reading: ReadOptions,
+) -> Result<File, E>
+    ensures { LoadsTelling D.Folder folder.now E.from_gives path reading result }
+{
+    let ReadOptions {
+        object_hash: kind,
+        skip_hash,
+        timestamp,
+        options,
+    } = reading;
+    match File::at_or_default_in(folder, alloc, path, kind, skip_hash, timestamp, options) {
+        Ok(file) => Ok(file),
+        Err(e) => Err(E::from(e)),
+    }
+}
+
 impl File {
-    /// Reads the index in the file at a path, with the shared index that it links to.
+    /// Reads the index in the file at a path, with the shared index that it links to. The files are the system's.
     ///
     /// The file's bytes are read as [`File::decode`] reads them, into room for as many as its metadata says. Then the
     /// link is taken out (gitformat-index, "Split index"). Where it has an id that isn't null, the file `sharedindex.`
@@ -151,7 +197,29 @@ impl File {
     /// [`Error::Io`] names the file that can't be opened or read, the index or the shared one. [`Error::Decode`] and
     /// [`Error::Memory`] are those of [`File::decode`], for either; [`Error::LinkExtension`] says why the two don't
     /// fit.
-    pub fn at<D: Folder>(
+    pub fn at<R: Files>(
+        rt: &R,
+        alloc: Global,
+        path: PathBuf,
+        object_hash: Kind,
+        skip_hash: bool,
+        timestamp: FileTime,
+        options: decode::Options,
+    ) -> Result<File, Error>
+        ensures { ReadsOnSystem path skip_hash object_hash timestamp options result }
+    {
+        let reading = ReadOptions {
+            object_hash,
+            skip_hash,
+            timestamp,
+            options,
+        };
+        let folder = System { rt };
+        at_telling::<System<'_, R>, Error>(&folder, alloc, path, reading)
+    }
+
+    /// Reads an index as [`File::at`] does, of a file in a folder.
+    pub fn at_in<D: Folder>(
         folder: &D,
         alloc: Global,
         path: PathBuf,
@@ -173,10 +241,32 @@ impl File {
         read_from(folder, alloc, at.as_path(), path, reading, false, false)
     }
 
-    /// The same, but an empty index with the timestamp where there is no file at the path: where opening it says so.
-    /// It is of version 2, and has no checksum. A file that a later call doesn't find, the shared one too, is
-    /// [`Error::Io`].
-    pub fn at_or_default<D: Folder>(
+    /// Reads an index as [`File::at`] does, or gives an empty one with the timestamp where there is no file at the path:
+    /// where opening it says so. It is of version 2, and has no checksum. A file that a later call doesn't find, the shared
+    /// one too, is [`Error::Io`].
+    pub fn at_or_default<R: Files>(
+        rt: &R,
+        alloc: Global,
+        path: PathBuf,
+        object_hash: Kind,
+        skip_hash: bool,
+        timestamp: FileTime,
+        options: decode::Options,
+    ) -> Result<File, Error>
+        ensures { LoadsOnSystem path skip_hash object_hash timestamp options result }
+    {
+        let reading = ReadOptions {
+            object_hash,
+            skip_hash,
+            timestamp,
+            options,
+        };
+        let folder = System { rt };
+        default_telling::<System<'_, R>, Error>(&folder, alloc, path, reading)
+    }
+
+    /// Reads an index as [`File::at_or_default`] does, of a file in a folder.
+    pub fn at_or_default_in<D: Folder>(
         folder: &D,
         alloc: Global,
         path: PathBuf,
@@ -198,9 +288,9 @@ impl File {
         read_from(folder, alloc, at.as_path(), path, reading, true, false)
     }
 
-    /// The same as [`File::at`], with the time at which the file was changed last as its timestamp, as the opened file
-    /// says it: a time that git holds against those of its entries (racy-git, "Racy Git"). It is the begin of 1970
-    /// where that isn't told.
+    /// Reads an index as [`File::at_in`] does, with the time at which the file was changed last as its timestamp, as the
+    /// opened file says it. git holds that time against those of its entries (racy-git, "Racy Git"). It is the begin of
+    /// 1970 where that isn't told.
     pub fn open<D: Folder>(
         folder: &D,
         alloc: Global,

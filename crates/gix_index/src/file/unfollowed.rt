@@ -25,7 +25,7 @@ use index_parts::hash::{Kind, ObjectId};
 use index_reading::decode::header;
 use index_state::State;
 use index_window::ReadOptions;
-use index_window::disk::bytes_of;
+use index_window::disk::{WholeFile, bytes_of};
 use index_window::large::in_windows;
 use index_window::passed::pass_entries;
 use std::alloc::Global;
@@ -96,7 +96,7 @@ fn decoded_whole(
 }
 
 /// The index in an opened file, which isn't followed: read in windows, or else whole. The bytes behind its entries are
-/// with it where they are kept, and else none or some of them.
+/// with it where they are kept, and else none or some of them. Of a file whose first bytes are no header none are held.
 pub(super) fn read_file<S: Source>(
     alloc: Global,
     mut file: S,
@@ -127,7 +127,10 @@ pub(super) fn read_file<S: Source>(
         Err(e) => return Err(read_fault(path, e)),
     }
     match bytes_of(alloc, file, reading.object_hash, reading.skip_hash) {
-        Ok((bytes, digest)) => decoded_whole(alloc, &bytes, digest, path, reading, keeps_ending),
+        Ok(WholeFile::Held(bytes, digest)) => {
+            decoded_whole(alloc, &bytes, digest, path, reading, keeps_ending)
+        }
+        Ok(WholeFile::Refused(e)) => Err(Error::Decode(e)),
         Err(e) => Err(read_fault(path, e)),
     }
 }

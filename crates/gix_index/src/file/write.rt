@@ -9,6 +9,7 @@ ghost use Rattle.index_format.specs.Storable.{IsWritable};
 ghost use Rattle.index_state.specs.State.{contents};
 ghost use Rattle.gix_index.specs.File.{path_of, state_of};
 ghost use Rattle.gix_index.specs.InPlace.{IsPutSince, LeavesLock};
+ghost use Rattle.gix_index.specs.OnSystem.{SaysOfWritingOnSystem};
 ghost use Rattle.gix_index.specs.WrittenFile.{IsWritten, SaysOfCommittingFile, SaysOfWritingFile, Stores};
 ghost use Rattle.gix_index.specs.WrittenFile.{id_of, image_of, version_of};
 ghost use Rattle.gix_index.specs.WrittenFile.{HoldsImage, LeavesLockOf, Saves, SaysOfWritingIn, StoresIn};
@@ -20,6 +21,7 @@ use index_file_faults::write::{Step, fault_of, put_fault};
 use index_folder::fault::PathError;
 use index_folder::folder::Folder;
 use index_folder::lock::{CommitError, Lock, lock_path};
+use index_folder::system::System;
 use index_format::write;
 use index_format::write::Options;
 use index_parts::hash::ObjectId;
@@ -28,6 +30,7 @@ use std::alloc::Global;
 use std::io;
 use std::io::{BufWriter, ErrorKind};
 use std::path::PathBuf;
+use std::rt::Files;
 
 /// How many bytes go to the file at once.
 const BUFFER_LEN: usize = 65536;
@@ -130,7 +133,7 @@ impl File {
     }
 
     /// Writes the index to its path, by way of the lock file `<path>.lock`, which keeps other writers out while it is
-    /// written, and not since it was read: beside git, [`File::lock`] is what loses nothing.
+    /// written, and not since it was read: beside git, [`File::lock`] is what loses nothing. The files are the system's.
     ///
     /// The lock file is made new; where there is one already, nothing is written. What [`File::write_to`] writes goes
     /// to it through a buffer of 64 KiB, and then it is renamed to the path. Version and checksum become those that
@@ -139,7 +142,18 @@ impl File {
     /// [`Error::AcquireLock`], [`Error::Io`] and [`Error::CommitLock`] say which step failed;
     /// [`Error::TooManyEntries`], [`Error::NulInPath`] and [`Error::TooLarge`] are those of [`File::write_to`]. After
     /// an error this `File` is as it was, and it was tried to remove the lock file, unless that was another's.
-    pub fn write<D: Folder>(
+    pub fn write<R: Files>(&mut self, rt: &R, alloc: Global, options: Options) -> Result<(), Error>
+        ensures ok { OnOk result (IsWritten self.old self.new options) }
+        ensures err { OnErr result (self.new ≡ self.old) }
+        ensures writable { OnOk result (IsWritable (contents (state_of self.old)) options) }
+        ensures fault { IfErr result (SaysOfWritingOnSystem self.old options) }
+    {
+        let mut folder = System { rt };
+        self.write_in(&mut folder, alloc, options)
+    }
+
+    /// Writes the index as [`File::write`] does, to a path in a folder.
+    pub fn write_in<D: Folder>(
         &mut self,
         folder: &mut D,
         alloc: Global,

@@ -1,7 +1,7 @@
 //! Writers that say how much they took, and hash it.
 
-ghost use Rattle.std.specs.Prelude.{◌≡◌, ◌≢◌, ℕ, List, [], ◌∷◌, Option, Bool, false, ⊤, is_err, IfErr, OnOk, OnErr};
-ghost use Rattle.std.specs.Prelude.{map};
+ghost use Rattle.std.specs.Prelude.{◌≡◌, ◌≢◌, ◌||◌, ℕ, List, [], ◌∷◌, Option, Bool, false, ⊤, is_err, IfErr, OnOk};
+ghost use Rattle.std.specs.Prelude.{OnErr, map};
 ghost use Rattle.std.specs.List.{flat_map};
 ghost use Rattle.std.specs.Io.{WritesAtMost};
 ghost use Rattle.std.specs.Io.KnownBytes.{Appends, WriteAppends};
@@ -83,11 +83,11 @@ pub trait Out {
     ghost loan: { Self → List ℕ } = { λ _. [] };
 
     /// Takes the whole piece. An error took a prefix of it, maybe none or all, and hashed nothing of it; the writer has
-    /// then failed.
+    /// failed from then on.
     fn put(&mut self, piece: &[u8]) -> io::Result<()>
         ensures bytes { Takes taken hashed self.old self.new result piece.now }
         ensures unhashed { OnErr result (KeepsHashed hashed self.old self.new) }
-        ensures has_failed { failed self.old ≡ false → failed self.new ≡ is_err result }
+        ensures has_failed { failed self.new ≡ (is_err result || failed self.old) }
         ensures loan { loan self.new ≡ loan self.old };
 
     /// Whether the writer has failed: a piece was not taken whole.
@@ -103,7 +103,7 @@ pub trait Out {
             (flat_map (λ p. p.now) pieces.now) }
         ensures failure { OnErr result
             (Breaks taken hashed self.old self.new (map (λ p. p.now) pieces.now)) }
-        ensures has_failed { failed self.old ≡ false → failed self.new ≡ is_err result }
+        ensures has_failed { failed self.new ≡ (is_err result || failed self.old) }
         ensures loan { loan self.new ≡ loan self.old }
     {
         for piece in pieces {
@@ -160,7 +160,7 @@ impl<W: io::Write> Out for Plain<W> {
 
     fn put(&mut self, piece: &[u8]) -> io::Result<()> {
         let result = put_all(&mut self.inner, piece);
-        self.failed = result.is_err();
+        self.failed |= result.is_err();
         result
     }
 
@@ -205,7 +205,7 @@ impl<W: Out> Out for Write<W> {
     fn put(&mut self, piece: &[u8]) -> io::Result<()>
         ensures bytes { Takes ⟦<Write<W> as Out>⟧.taken ⟦<Write<W> as Out>⟧.hashed self.old self.new
             result piece.now }
-        ensures has_failed { W.failed self.old.inner ≡ false → W.failed self.new.inner ≡ is_err result }
+        ensures has_failed { W.failed self.new.inner ≡ (is_err result || W.failed self.old.inner) }
         ensures loan { ⟦<Write<W> as Out>⟧.loan self.new ≡ ⟦<Write<W> as Out>⟧.loan self.old }
         ensures unhashed { OnErr result (KeepsHashed ⟦<Write<W> as Out>⟧.hashed self.old self.new) }
         ensures hash { OnErr result (self.new.hash ≡ self.old.hash) }

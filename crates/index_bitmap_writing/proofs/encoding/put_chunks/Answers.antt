@@ -17,7 +17,7 @@ returns-in_err-put_chunk g c =
     let h = c.loop-place.invariant in
     puts_stopped_after c.from_residual.result _ c.from_residual.ensures.0
     (chunk_rest (drop c.loop-place.place words) (drop chunk.end words) h.so_far.0 _ (marked_at words chunk)
-    c.chunk_at-chunk.ensures.chunk h.so_far.2) h.so_far.1 h.going h.loan c.in_err-put_chunk.ensures
+    c.chunk_at-chunk.ensures.chunk h.so_far.2) h.so_far.1 h.loan c.in_err-put_chunk.ensures
 
 pub loop-place-preserved : goal.loop-place-preserved
 loop-place-preserved g c =
@@ -26,7 +26,7 @@ loop-place-preserved g c =
     let h = c.loop-place.invariant in
     record {
       inside = c.chunk_at-chunk.ensures.inside;
-      going = λ f. c.in_ok-put_chunk.ensures.failed (h.going f);
+      going = c.in_ok-put_chunk.ensures.failed ∙ h.going;
       loan = c.in_ok-put_chunk.ensures.loan ∙ h.loan;
       so_far = (
         h.so_far.0 ++ flat_map be64 (marked_words (marked_at words chunk)),

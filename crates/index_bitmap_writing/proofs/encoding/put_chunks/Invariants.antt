@@ -1,4 +1,4 @@
-use Rattle.std.proofs.Common.{◌≡◌, ◌++◌, ◌-◌, ◌≤◌, false, List, ℕ, length, drop}
+use Rattle.std.proofs.Common.{◌≡◌, ◌++◌, ◌-◌, ◌≤◌, List, ℕ, length, drop}
 use Rattle.std.specs.List.{flat_map}
 use Rattle.index_parts.specs.Taking.{Took}
 use Rattle.index_bitmap_writing.specs.BitmapImage.{be64}
@@ -9,7 +9,7 @@ use Rattle.index_bitmap_writing.proofs.encoding.put_chunks.Given as goal
 abbrev pub invariant-loop-place : goal.invariant-loop-place
 invariant-loop-place g l = record {
   inside : l.place ≤ length (g.B.Words.words l.bits);
-  going : g.W.Out.failed l.fn.out ≡ false → g.W.Out.failed l.out ≡ false;
+  going : g.W.Out.failed l.out ≡ g.W.Out.failed l.fn.out;
   loan : g.W.Out.loan l.out ≡ g.W.Out.loan l.fn.out;
   so_far : (done : List ℕ) × Took g.W.Out.taken g.W.Out.hashed l.fn.out l.out done
       × (done ++ flat_map be64 (flat_map marked_words (marked (drop l.place (g.B.Words.words l.bits))))

@@ -11,7 +11,7 @@ returns-in_err-put_word g c =
     let place = c.loop-place.place in
     puts_stopped_after c.from_residual.result _ c.from_residual.ensures.0
     (between_rest words c.args.first place c.args.end c.word.result c.loop-place.auto.place c.loop-place-test.true
-    c.word.ensures) c.loop-place.invariant.so_far c.loop-place.invariant.going c.loop-place.invariant.loan c.in_err-put_word.ensures
+    c.word.ensures) c.loop-place.invariant.so_far c.loop-place.invariant.loan c.in_err-put_word.ensures
 
 pub loop-place-preserved : goal.loop-place-preserved
 loop-place-preserved g c =
@@ -19,7 +19,7 @@ loop-place-preserved g c =
     let place = c.loop-place.place in
     let h = c.loop-place.invariant in
     record {
-      going = λ f. c.in_ok-put_word.ensures.failed (h.going f);
+      going = c.in_ok-put_word.ensures.failed ∙ h.going;
       loan = c.in_ok-put_word.ensures.loan ∙ h.loan;
       so_far = subst (Took g.W.Out.taken g.W.Out.hashed c.args.out.now c.put_word.new.out)
           (words_taken words c.args.first place c.word.result _ c.loop-place.auto.place c.word.ensures)

@@ -7,4 +7,4 @@ use Rattle.index_bitmap_writing.proofs.ewah.put_words.Goals as goal
 pub returns-in_err-put_word : goal.returns-in_err-put_word
 returns-in_err-put_word g c = puts_stopped_after c.from_residual.result _ c.from_residual.ensures.0
     (sym (flat_map_at be64 c.args.words.now c.loop-word.word-index 0 c.loop-word-test.true)) c.loop-word.invariant.so_far
-    c.loop-word.invariant.going c.loop-word.invariant.loan c.in_err-put_word.ensures
+    c.loop-word.invariant.loan c.in_err-put_word.ensures

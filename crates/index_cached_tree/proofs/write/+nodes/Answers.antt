@@ -28,4 +28,4 @@ put_nodes-returns-in_err-put_node g t c =
     let whole = ap (λ u. (flat_map f (take i trees) ++ f u) ++ flat_map f (drop (suc i) trees)) c.tree-item.is
     ∙ sym (flat_map_at f trees i c.tree-item.result c.loop-tree-test.true) in
     puts_stopped_after c.from_residual.result _ c.from_residual.ensures.0 whole c.loop-tree.invariant.so_far
-    c.loop-tree.invariant.going c.loop-tree.invariant.loan c.in_err-put_node.ensures
+    c.loop-tree.invariant.loan c.in_err-put_node.ensures

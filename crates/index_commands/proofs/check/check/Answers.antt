@@ -43,6 +43,7 @@ returns-in-Ok g c = record {
         ordered = c.in_ok-verify_contents.ensures.ordered;
         tree = c.in_ok-verify_contents.ensures.tree;
         trees = c.in_ok-verify_contents.ensures.right;
+        strict = c.in_ok-verify_contents.ensures.strict;
         intact = fits_file (disk_at (g.D.Folder.known c.args.folder.now) c.args.path.now) c.args.kind
             (contents (state_of c.in_ok-index.index)) (checksum_of c.in_ok-index.index) c.in_ok-index.ensures.read;
       };
@@ -66,6 +67,7 @@ returns g c = record {
         ordered = c.in_ok-verify_contents.ensures.ordered;
         tree = c.in_ok-verify_contents.ensures.tree;
         trees = c.in_ok-verify_contents.ensures.right;
+        strict = c.in_ok-verify_contents.ensures.strict;
         intact = fits_file (disk_at (g.D.Folder.known c.args.folder.now) c.args.path.now) c.args.kind
             (contents (state_of c.in_ok-index.index)) (checksum_of c.in_ok-index.index) c.in_ok-index.ensures.read;
       };

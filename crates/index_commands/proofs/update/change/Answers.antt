@@ -5,7 +5,8 @@ use Rattle.gix_index.specs.State.{contents, storage_of}
 use Rattle.index_info.specs.Line.{ChangeValue}
 use Rattle.index_info.specs.Text.{AreSaid, change_value, line_value}
 use Rattle.index_info.specs.declared.line.Line.{Line}
-use Rattle.index_commands.proofs.Updated.{refusal_is}
+use Rattle.index_commands.specs.Updating.{IsTimed}
+use Rattle.index_commands.proofs.Updated.{granted_among, refused_among}
 use Rattle.index_commands.proofs.update.change.Goals as goal
 
 pub returns-in-Ok-apply : goal.returns-in-Ok-apply
@@ -20,11 +21,15 @@ returns-in-Ok-apply c =
         said = subst (λ (vs : List ChangeValue). AreSaid c.args.nul c.args.kind c.args.text.now vs) (sym same)
             c.in-Ok.ensures.said;
         room = length (storage_of c.args.state.now);
-        granted = c.in-Ok-apply.ensures.reason;
+        changed = contents c.apply.new.self;
+        granted = granted_among _ c.deref-2.result.now (contents c.args.state.now).records c.requires _
+            c.in-Ok-apply.ensures.reason;
         is = c.in-Ok-apply.ensures.updated placed c.requires;
         applied = c.in-Ok-apply.ensures.applied placed c.requires;
+        timed = subst (λ (cs : List Change). IsTimed cs (contents c.apply.new.self) (contents c.renew.new.state))
+            (c.deref-in-Ok-apply.ensures.value ∙ sym c.deref-2.ensures.value) c.renew.ensures.timed;
       };
-      placed = grind (arith, common_steps);
+      placed = λ placed. c.renew.ensures.placed (c.in-Ok-apply.ensures.placed placed);
       fault = tt;
     }
 
@@ -45,7 +50,8 @@ returns-in-Err-Refused c =
               c.in-Ok.ensures.said;
           of = (contents c.args.state.now).kind;
           room = length (storage_of c.args.state.now);
-          is = refusal_is _ c.in-Err-Refused.at c.in-Err-Refused.cause reason;
+          is = refused_among _ c.deref-2.result.now (contents c.args.state.now).records c.requires c.in-Err-Refused.at
+              c.in-Err-Refused.cause reason;
         },
       );
     }

@@ -6,7 +6,6 @@ use Rattle.gix_index.specs.File.{state_of}
 use Rattle.gix_index.specs.State.{contents}
 use Rattle.gix_index.specs.StateType.{State}
 use Rattle.gix_index.specs.declared.file.File.{File}
-use Rattle.index_failures.specs.Options.{rewrite_options}
 use Rattle.index_failures.specs.Storing as storing
 use Rattle.index_failures.proofs.Replaced.{replaced_on_ok, unwritten_on_err}
 use Rattle.index_failures.proofs.Restored.{restored_so, restores, restores_unmade}
@@ -31,12 +30,12 @@ returns-in-Ok g c =
       written = replaced_on_ok (g.D.Folder.guards c.args.folder.now) (g.D.Folder.known c.args.folder.now)
           (g.D.Folder.known c.lock_at.new.folder) c.args.to.now c.in_ok-lock.lock.place c.in_ok-lock.ensures.locked
           (g.D.Folder.alone c.lock_at.new.folder) (g.D.Folder.alone c.args.folder.now)
-          (g.D.Folder.known c.commit_at.new.folder) c.in-Ok.index (rewrite_options c.choice-version.result)
+          (g.D.Folder.known c.commit_at.new.folder) c.in-Ok.index c.choice-options.result
           (g.D.Made.Write.contents c.in_ok-lock.lock.file)
           (λ (w : World) (i : File). IsUpdatedIn c.args.nul w c.args.from.now c.args.path.now c.args.kind (contents (state_of i)))
           (chosen_options AsRead) c.lock_at.ensures.manner.alone c.in_ok-lock.ensures.empty c.in-Ok.ensures.read
-          (ap rewrite_options (c.choice-version.ensures
-          ∙ ap (chosen AsRead) (c.version.ensures ∙ ap (λ (s : State). (contents s).version) c.deref.ensures)))
+          (c.choice-options.ensures
+          ∙ ap (chosen AsRead) (c.version.ensures ∙ ap (λ (s : State). (contents s).version) c.deref.ensures))
           c.commit_at.result c.commit_at.ensures.written c.commit_at.ensures.put;
       restored = restored_so (g.D.Folder.guards c.args.folder.now) (g.D.Folder.works c.args.folder.now)
           (g.D.Folder.known c.args.folder.now) (g.D.Folder.known c.lock_at.new.folder)
@@ -48,7 +47,7 @@ returns-in-Ok g c =
           (g.D.Folder.known c.lock_at.new.folder) c.args.to.now c.in_ok-lock.lock.place c.in_ok-lock.ensures.locked
           (g.D.Folder.works c.lock_at.new.folder) (g.D.Folder.works c.args.folder.now)
           (λ (w : World). FailsToUpdate c.args.nul (g.D.Folder.works c.args.folder.now) w c.args.kind c.args.from.now
-          c.args.path.now) (contents (state_of c.in-Ok.index)) (rewrite_options c.choice-version.result)
+          c.args.path.now) (contents (state_of c.in-Ok.index)) c.choice-options.result
           c.commit_at.result c.lock_at.ensures.manner.works c.commit_at.ensures.fault;
     }
 

@@ -1,9 +1,10 @@
-use Rattle.std.proofs.Common.{refl, subst, sym}
+use Rattle.std.proofs.Common.{ap, refl, subst, sym, ◌∙◌}
+use Rattle.std.proofs.lemmas.Result.{err_from_is_err_and}
 use Rattle.gix_index.specs.File.{state_of}
 use Rattle.gix_index.specs.SoundState.{SaysFall}
 use Rattle.gix_index.specs.State.{PathsInStorage, contents}
 use Rattle.gix_index.specs.StateType.{State}
-use Rattle.index_commands.specs.Updating.{IsUpdatedBy, unordered}
+use Rattle.index_commands.specs.Updating.{IsOfText, IsUpdatedBy, refused, unordered}
 use Rattle.index_commands.proofs.update.updated.Goals as goal
 
 pub returns : goal.returns
@@ -37,3 +38,19 @@ returns-in-Err g c = record {
     );
   });
 }
+
+pub returns-in_err-change : goal.returns-in_err-change
+returns-in_err-change g c =
+    let p = err_from_is_err_and c.from_residual-in_err-change.result
+    c.from_residual-in_err-change.ensures.1 in
+    rw (p.1, p.2) (record {
+      read = tt;
+      placed = tt;
+      fault = refused (record {
+        before = contents (state_of c.in_ok-index.index);
+        begun = c.in_ok-index.ensures.read;
+        text = c.in_ok-text.text.items;
+        held = c.in_ok-text.ensures.held;
+        is = rw (c.deref-2.ensures.value, c.into_parts-state.ensures.state) at c.in_err-change.ensures.fault;
+      });
+    })

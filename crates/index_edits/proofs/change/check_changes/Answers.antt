@@ -1,24 +1,13 @@
-use Rattle.std.proofs.Common.{◌∙◌, ap, arith}
-use Rattle.std.proofs.lemmas.List.{drop_all}
-use Rattle.index_edits.specs.Changes.{refusal_from}
-use Rattle.index_edits.proofs.Checks.{none_left, passed_at, refused_at}
+use Rattle.std.proofs.Common.{refl}
+use Rattle.std.proofs.lemmas.Result.{err_from_is_err_and}
+use Rattle.index_edits.specs.Wholes.{first_in_whole}
 use Rattle.index_edits.proofs.change.check_changes.Goals as goal
 
-pub returns-in-Err : goal.returns-in-Err
-returns-in-Err g c =
-    c.loop-at.invariant ∙ refused_at (g.C.ComponentCheck.refusal c.args.check.now) c.args.kind c.loop-at.grown c.loop-at.at
-    c.args.changes.now _ (omega (arith, c.loop-at-test.true)) c.in-Err.cause c.in-Err.ensures.fault
-
-pub loop-at-preserved : goal.loop-at-preserved
-loop-at-preserved g c =
-    c.loop-at.invariant ∙ passed_at (g.C.ComponentCheck.refusal c.args.check.now) c.args.kind c.loop-at.grown c.loop-at.at
-    c.args.changes.now _ (omega (arith, c.loop-at-test.true)) c.in-Ok.more c.in-Ok.ensures.fault c.in-Ok.ensures.grown
-
-pub returns : goal.returns
-returns g c =
-    let check = g.C.ComponentCheck.refusal c.args.check.now in
-    let at = c.loop-at.at in
-    c.loop-at.invariant
-    ∙ ap (refusal_from check c.args.kind c.loop-at.grown at)
-    (drop_all at c.args.changes.now (omega (arith, c.loop-at-test.false)))
-    ∙ none_left check c.args.kind c.loop-at.grown at
+pub returns-in_err-check_each : goal.returns-in_err-check_each
+returns-in_err-check_each g c =
+    let p = err_from_is_err_and c.from_residual.result c.from_residual.ensures.1 in
+    rw (p.1, p.2) (record {
+      place = first_in_whole c.args.changes.now c.args.entries.now;
+      exactly = λ o. refl;
+      answer = rw c.in_err-check_each.ensures refl;
+    })

@@ -1,9 +1,12 @@
-use Rattle.std.proofs.Common.{◌∙◌, refl, sym, ap, subst, take, ◌||◌}
+use Rattle.std.proofs.Common.{◌≡◌, ◌∙◌, refl, sym, ap, subst, take, ◌||◌}
 use Rattle.std.specs.List.{list_any}
+use Rattle.std.specs.Prelude.{is_some}
+use Rattle.index_entries.specs.Order.{record_stage}
 use Rattle.index_entries.specs.Record.{with_path}
 use Rattle.index_lookups.proofs.Lookup.{ordered_by_path}
 use Rattle.index_metadata.specs.Flags.{stage_code}
 use Rattle.index_edits.specs.EditSteps.{IsClear, stands_above, stands_below}
+use Rattle.index_edits.proofs.Anys.{any_placed}
 use Rattle.index_edits.proofs.Stages.{stage_is}
 use Rattle.index_edits.proofs.Ways.{odds_told}
 use Rattle.index_edits.proofs.odds.has_odds.Goals as goal
@@ -19,11 +22,14 @@ returns-then-has_below c = λ o clear.
 
 pub returns-else-has_below : goal.returns-else-has_below
 returns-else-has_below c = λ o clear.
-    let new = with_path c.args.path.now c.args.entry in
+    let path = c.args.path.now in
+    let new = with_path path c.args.entry in
     let rs = c.args.entries.now in
     let code = ap stage_code c.stage.ensures ∙ stage_is c.args.entry.flags.0 in
-    let told = odds_told new rs c.has_below.result c.has_above.result
-    (c.has_below.ensures (ordered_by_path rs o) ∙ ap (λ n. list_any (stands_below c.args.path.now n) rs) c.stage_raw.ensures)
-    (c.has_above.ensures o (subst (λ n. IsClear (take c.args.known c.args.path.now) n rs) (sym code) clear)
-    ∙ ap (λ n. list_any (stands_above c.args.path.now n) rs) code) in
-    ap (λ b. b || c.has_above.result) (sym c.if-has_below.false) ∙ told
+    let first = c.first_above.ensures.first o (subst (λ n. IsClear (take c.args.known path) n rs) (sym code) clear) in
+    let above : c.is_some.result ≡ list_any (stands_above path (record_stage new)) rs =
+    c.is_some.ensures ∙ ap is_some first ∙ any_placed (stands_above path (stage_code c.stage.result)) rs
+    ∙ ap (λ n. list_any (stands_above path n) rs) code in
+    let told = odds_told new rs c.has_below.result c.is_some.result
+    (c.has_below.ensures (ordered_by_path rs o) ∙ ap (λ n. list_any (stands_below path n) rs) c.stage_raw.ensures) above in
+    ap (λ b. b || c.is_some.result) (sym c.if-has_below.false) ∙ told

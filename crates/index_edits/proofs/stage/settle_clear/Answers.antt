@@ -8,7 +8,7 @@ use Rattle.index_edits.specs.Edits.{IsStagedInto, displaced}
 use Rattle.index_edits.specs.EntryEdits.{ChangesPlaced}
 use Rattle.index_edits.specs.EditSteps.{IsClearUpto, is_other, is_side_at}
 use Rattle.index_edits.proofs.Displacings.{conflict_told}
-use Rattle.index_edits.proofs.Stagings.{left_staged, none_staged, staged_count, staged_into}
+use Rattle.index_edits.proofs.Stagings.{left_staged, none_staged, now_ordered, staged_count, staged_into}
 use Rattle.index_edits.proofs.stage.settle_clear.Goals as goal
 use Rattle.index_edits.proofs.stage.settle_clear.Goals.{then-way, else-way}
 
@@ -31,9 +31,11 @@ made c = λ placed o clear.
     → c.in_the_way-way.result.others ≡ list_any (is_other new) rs)
     (there c) c.in_the_way-way.ensures.others o clear in
     staged_into new old now _ o p (elim c.if-way.branch [
-      | then-way w ↦ rw w.entries-is (left_staged new old now p _ (subst (λ s. records_in s w.remove_others.new.entries.items
+      | then-way w ↦ rw w.entries-is (left_staged new old now p _
+          (subst (λ s. IsStrictlyOrdered (records_in s c.put.new.entries.items)
+          → records_in s w.remove_others.new.entries.items
           ≡ filter (λ r. not (is_other new r)) (records_in s c.put.new.entries.items))
-          w.deref-then-way.ensures.value w.remove_others.ensures.left))
+          w.deref-then-way.ensures.value w.remove_others.ensures.left (now_ordered new old now p o)))
       | else-way w ↦ rw w.entries-is (none_staged new old now p (sym others ∙ w.if-way.false))
     ])
 

@@ -15,7 +15,6 @@ returns-in_err-put_behind g c =
 pub loop-entry-preserved : goal.loop-entry-preserved
 loop-entry-preserved g c =
     record {
-      room = c.in_ok-put_behind.ensures.room;
       so_far =
           gathers_more _ (entries_push c.args.version c.args.storage.now c.args.entries.now c.loop-entry.entry-index _ _
           c.loop-entry-test.true (sym c.is_removed.ensures ∙ c.if-is_removed.false) c.loop-entry.invariant.last)

@@ -1,4 +1,4 @@
-use Rattle.std.proofs.Common.{◌≡◌, false, take, []}
+use Rattle.std.proofs.Common.{◌≡◌, take, []}
 use Rattle.index_parts.specs.Gathered.{Gathers}
 use Rattle.index_entries.specs.EntryImage.{entries_in}
 use Rattle.index_entries.proofs.Written.{written_of, last_of}
@@ -7,7 +7,6 @@ use Rattle.index_entries.proofs.write.put_entries.Given as goal
 -- the entries before this one went out or are in the block, and the path is that of the last one
 abbrev pub invariant-loop-entry : goal.invariant-loop-entry
 invariant-loop-entry g l = record {
-  room : l.block.is_full ≡ false;
   so_far : Gathers g.W.Out l.fn.out l.out l.block.bytes
       (entries_in l.version [] (written_of l.storage (take l.entry-index l.entries)));
   last : l.previous ≡ last_of [] (written_of l.storage (take l.entry-index l.entries));

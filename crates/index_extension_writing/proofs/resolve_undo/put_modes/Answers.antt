@@ -7,4 +7,4 @@ use Rattle.index_extension_writing.proofs.resolve_undo.put_modes.Goals as goal
 pub returns-in_err-put_mode : goal.returns-in_err-put_mode
 returns-in_err-put_mode g c = puts_stopped_after c.from_residual.result _ c.from_residual.ensures.0
     (sym (flat_map_at mode_bytes c.args.stages.now c.loop-stage.stage-index _ c.loop-stage-test.true)) c.loop-stage.invariant.so_far
-    c.loop-stage.invariant.going c.loop-stage.invariant.loan c.in_err-put_mode.ensures
+    c.loop-stage.invariant.loan c.in_err-put_mode.ensures

@@ -15,4 +15,4 @@ returns-in_err-put_path g c =
     let whole = ap (λ p. (flat_map f (take i paths) ++ f p) ++ flat_map f (drop (suc i) paths)) c.path-item.is
     ∙ sym (flat_map_at f paths i c.path-item.result c.loop-path-test.true) in
     puts_stopped_after c.from_residual.result _ c.from_residual.ensures.0 whole c.loop-path.invariant.so_far
-    c.loop-path.invariant.going c.loop-path.invariant.loan c.in_err-put_path.ensures
+    c.loop-path.invariant.loan c.in_err-put_path.ensures

@@ -1,4 +1,4 @@
-use Rattle.std.proofs.Common.{◌≡◌, false, take}
+use Rattle.std.proofs.Common.{◌≡◌, take}
 use Rattle.index_untracked.specs.Blocks.{directory_value}
 use Rattle.index_extension_writing.specs.UntrackedImage.{directory_bytes}
 use Rattle.std.specs.List.{flat_map}
@@ -8,7 +8,7 @@ use Rattle.index_extension_writing.proofs.untracked_cache.put_blocks.Given as go
 -- the ones before this one were taken
 abbrev pub invariant-loop-directory : goal.invariant-loop-directory
 invariant-loop-directory g l = record {
-  going : g.W.Out.failed l.fn.out ≡ false → g.W.Out.failed l.out ≡ false;
+  going : g.W.Out.failed l.out ≡ g.W.Out.failed l.fn.out;
   loan : g.W.Out.loan l.out ≡ g.W.Out.loan l.fn.out;
   so_far : Took g.W.Out.taken g.W.Out.hashed l.fn.out l.out (flat_map (λ d. directory_bytes (directory_value d)) (take l.directory-index l.directories));
 }

@@ -12,7 +12,7 @@ returns-then-is_empty g c =
     puts_is _ (no_directories c.args.directories.now
     (eqb-true (length c.args.directories.now) 0 (sym c.if-is_empty.ensures))) (record {
       takes = Took-nil g.W.Out.taken g.W.Out.hashed c.args.out.now;
-      failed = λ f. f;
+      failed = refl;
       loan = refl;
     })
 

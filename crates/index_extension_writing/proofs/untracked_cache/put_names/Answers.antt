@@ -14,5 +14,5 @@ returns-in_err-put_text g c =
     let whole = ap (λ d. (flat_map f (take i names) ++ f d) ++ flat_map f (drop (suc i) names)) c.name-item.is
     ∙ sym (flat_map_at f names i c.name-item.result c.loop-name-test.true) in
     puts_stopped_after c.from_residual.result _ c.from_residual.ensures.0 whole c.loop-name.invariant.so_far
-    c.loop-name.invariant.going c.loop-name.invariant.loan
+    c.loop-name.invariant.loan
     (puts_is _ (ap (λ l. l ++ 0 ∷ []) c.as_bytes.ensures) c.in_err-put_text.ensures)

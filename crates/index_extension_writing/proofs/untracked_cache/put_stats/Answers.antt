@@ -14,4 +14,4 @@ returns-in_err-put_stat g c =
     let whole = ap (λ d. (flat_map f (take i directories) ++ f d) ++ flat_map f (drop (suc i) directories)) c.directory-item.is
     ∙ sym (flat_map_at f directories i c.directory-item.result c.loop-directory-test.true) in
     puts_stopped_after c.from_residual.result _ c.from_residual.ensures.0 whole c.loop-directory.invariant.so_far
-    c.loop-directory.invariant.going c.loop-directory.invariant.loan c.in_err-put_stat.ensures
+    c.loop-directory.invariant.loan c.in_err-put_stat.ensures

@@ -1,4 +1,4 @@
-use Rattle.std.proofs.Common.{◌≡◌, false, take}
+use Rattle.std.proofs.Common.{◌≡◌, take}
 use Rattle.index_extension_writing.specs.UntrackedImage.{valid_stat}
 use Rattle.std.specs.List.{flat_map}
 use Rattle.index_parts.specs.Taking.{Took}
@@ -7,7 +7,7 @@ use Rattle.index_extension_writing.proofs.untracked_cache.put_stats.Given as goa
 -- the ones before this one were taken
 abbrev pub invariant-loop-directory : goal.invariant-loop-directory
 invariant-loop-directory g l = record {
-  going : g.W.Out.failed l.fn.out ≡ false → g.W.Out.failed l.out ≡ false;
+  going : g.W.Out.failed l.out ≡ g.W.Out.failed l.fn.out;
   loan : g.W.Out.loan l.out ≡ g.W.Out.loan l.fn.out;
   so_far : Took g.W.Out.taken g.W.Out.hashed l.fn.out l.out (flat_map (λ d. valid_stat d.stat) (take l.directory-index l.directories));
 }

@@ -3,12 +3,12 @@ use Rattle.gix_index.specs.FileFaults.ReadError.TheVariants.{Memory}
 use Rattle.index_failures.proofs.Readings.{in_file, options_are, says_so}
 use Rattle.index_failures.proofs.index.index_at.Goals as goal
 
-pub returns-in-Ok-at : goal.returns-in-Ok-at
-returns-in-Ok-at g c =
+pub returns-in-Ok-at_in : goal.returns-in-Ok-at_in
+returns-in-Ok-at_in g c =
     let default = c.default-options.ensures in
     record {
       read = in_file (g.D.Folder.known c.args.folder.now) _ c.args.path.now c.args.kind _ _ _ _ (refl, refl)
-          c.in-Ok.ensures (options_are _ default.0 default.1.0 default.1.1.0 default.1.1.1) c.in-Ok-at.ensures.read;
+          c.in-Ok.ensures (options_are _ default.0 default.1.0 default.1.1.0 default.1.1.1) c.in-Ok-at_in.ensures.read;
       path = search rules;
       placed = search rules;
       fault = tt;

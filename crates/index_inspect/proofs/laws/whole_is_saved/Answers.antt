@@ -4,19 +4,26 @@ use Rattle.gix_index.specs.Kind.{Kind}
 use Rattle.gix_index.specs.Laws.{HasOneReading}
 use Rattle.gix_index.specs.Link.{IsLink, LinkValue, link_of}
 use Rattle.gix_index.specs.Record.{Record}
-use Rattle.gix_index.specs.State.{records}
-use Rattle.index_inspect.specs.Laws.{IsAlone, IsReadAndSaved}
-use Rattle.index_inspect.specs.Salvage.{IsCompleted, IsSavedOf}
+use Rattle.gix_index.specs.State.{contents, records}
+use Rattle.index_inspect.specs.Accepted.{AreAcceptable}
+use Rattle.index_inspect.specs.Laws.{IsAlone, IsReadAndSaved, KeepsAll, KeepsWhole}
+use Rattle.index_inspect.specs.Choice.{IsKept, IsSavedOf, TellsFirst, fit_of}
+use Rattle.index_inspect.specs.Salvage.{IsCompleted, looked_at}
+use Rattle.index_inspect.specs.declared.chosen.Keep.{Keep}
+use Rattle.index_inspect.specs.declared.chosen.Keep.TheVariants.{All}
 use Rattle.index_inspect.specs.declared.remains.Remains.{Remains}
 use Rattle.index_inspect.specs.declared.salvage.Salvaged.{Salvaged}
 use Rattle.index_inspect.proofs.Completing.{none_given, none_wanted}
+use Rattle.index_inspect.proofs.KeptEntries.{whole_kept}
 use Rattle.index_inspect.proofs.KeptLinks.{divided_link}
-use Rattle.index_inspect.proofs.Sameness.{one_saving, saved_itself}
+use Rattle.index_inspect.proofs.Looking.{fit_looked, looked_whole}
+use Rattle.index_inspect.proofs.Sameness.{one_saving}
 use Rattle.index_inspect.proofs.Unreadable.{same_entries}
 use Rattle.index_inspect.proofs.WholeLinks.{HasLinkAt, whole_link}
 use Rattle.index_inspect.proofs.laws.whole_is_saved.Goals as goal
 
-module _ (v : Contents) (r : Remains) (shared : Option Contents) (s : Salvaged) (h : IsReadAndSaved v r shared s) where
+module _ (keep : Keep) (v : Contents) (r : Remains) (shared : Option Contents) (s : Salvaged)
+    (h : IsReadAndSaved keep v r shared s) where
   pub front_same : v.records ≡ records r.front
   front_same = same_entries h.kind h.time h.options h.bytes (records r.front) h.remain.divides.pieces
       h.remain.divides.fault (v, h.checksum) h.takes_all h.read h.remain.divides.is_divided
@@ -39,23 +46,37 @@ module _ (v : Contents) (r : Remains) (shared : Option Contents) (s : Salvaged) 
       (subst (λ (o : Option Contents). IsCompleted (option_map link_of r.link) r.has_link o (records r.front)
       h.saves.all s.shared) none h.saves.completed)
 
-  pub all_saved : ((kind : Kind) → HasOneReading (IsLink kind)) → IsAlone v shared
-      → IsSavedOf v.records (records s.state)
-  all_saved one alone =
-      subst (λ (l : List Record). IsSavedOf l (records s.state)) (own_saved one alone ∙ sym front_same) h.saves.saved
+  pub all_read : ((kind : Kind) → HasOneReading (IsLink kind)) → IsAlone v shared → h.saves.all ≡ v.records
+  all_read one alone = own_saved one alone ∙ sym front_same
+
+  pub keeps_whole : ((kind : Kind) → HasOneReading (IsLink kind)) → IsAlone v shared → KeepsWhole v r s
+  keeps_whole one alone whole =
+      let kind = (contents r.front).kind in
+      let same = all_read one alone in
+      let looked : looked_at s.shared h.saves.all ≡ v.records =
+      looked_whole kind s.shared h.saves.all (subst (AreAcceptable kind) (sym same) whole) ∙ same in
+      whole_kept keep kind v.records (records s.state) s.first whole
+      (subst (λ (l : List Record). TellsFirst kind l s.first) looked h.saves.first)
+      (subst (λ (l : List Record). IsKept keep kind l s.first (records s.state)) looked h.saves.kept)
+
+keeps_all : (v : Contents) (r : Remains) (shared : Option Contents) (s : Salvaged) → IsReadAndSaved All v r shared s
+    → ((kind : Kind) → HasOneReading (IsLink kind)) → IsAlone v shared → KeepsAll v r s
+keeps_all v r shared s h one alone =
+    let kind = (contents r.front).kind in
+    subst (λ (l : List Record). IsSavedOf l (records s.state))
+    (fit_looked kind s.shared h.saves.all ∙ ap (fit_of kind) (all_read All v r shared s h one alone)) h.saves.kept
 
 pub returns-clause-link : goal.returns-clause-link
-returns-clause-link c = λ v r shared s h. link_same v r shared s h c.one_reading.ensures.link
+returns-clause-link c = λ keep v r shared s h. link_same keep v r shared s h c.one_reading.ensures.link
 
 pub returns-clause-read : goal.returns-clause-read
-returns-clause-read c = λ v r shared s h. h.saves.read ∙ sym (ap length (front_same v r shared s h))
+returns-clause-read c = λ keep v r shared s h. h.saves.read ∙ sym (ap length (front_same keep v r shared s h))
 
 pub returns-clause-saved : goal.returns-clause-saved
-returns-clause-saved c = λ v r shared s h alone. all_saved v r shared s h c.one_reading.ensures.link alone
+returns-clause-saved c = λ v r shared s h alone. keeps_all v r shared s h c.one_reading.ensures.link alone
 
 pub returns-clause-same : goal.returns-clause-same
-returns-clause-same c = λ v r shared s h alone whole. one_saving v.records (records s.state) v.records
-    (all_saved v r shared s h c.one_reading.ensures.link alone) (saved_itself v.records whole.ordered whole.named)
+returns-clause-same c = λ keep v r shared s h alone. keeps_whole keep v r shared s h c.one_reading.ensures.link alone
 
 pub returns-clause-one : goal.returns-clause-one
 returns-clause-one c = one_saving

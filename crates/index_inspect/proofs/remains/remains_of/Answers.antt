@@ -1,4 +1,4 @@
-use Rattle.std.proofs.Common.{ap, refl, ◌∙◌}
+use Rattle.std.proofs.Common.{ap, ◌∙◌}
 use Rattle.gix_index.specs.Contents.{Contents}
 use Rattle.index_inspect.specs.DivisionSteps.{EndsDivision}
 use Rattle.index_inspect.proofs.ReadFronts.{are_bytes}
@@ -15,7 +15,7 @@ pub returns-clause-remains : goal.returns-clause-remains
 returns-clause-remains c =
     let d = c.in_ok-parts.field-0 in
     remain_of c.args.kind c.args.bytes.now d.entries.records d.parts.items d.fault _ c.in_ok-parts.ensures
-    (rw c.in-Ok.ensures.0 refl)
+    c.in-Ok.ensures.0
     (c.marked-front.ensures.records ∙ ap (λ (v : Contents). v.records) c.from_entries.ensures.entries)
     c.first_fault-fault.ensures.error c.in-Ok.ensures.1
     (rw c.deref-3.ensures.value at c.first_fault-fault.ensures.offset)

@@ -4,7 +4,7 @@ use Rattle.gix_index.specs.Outcome.{outcome_of}
 use Rattle.gix_index.specs.Record.{IsPlaced, Record, records_in}
 use Rattle.gix_index.specs.Sorted.{IsOrdered}
 use Rattle.gix_index.specs.State.{contents, records}
-use Rattle.index_inspect.specs.Salvage.{IsSavedOf}
+use Rattle.index_inspect.specs.Choice.{IsSavedOf}
 use Rattle.index_inspect.proofs.Saved.{index_saved, plain_contents}
 use Rattle.index_inspect.proofs.salvage.firsts.Goals as goal
 

@@ -6,10 +6,8 @@ pub returns-then-are_storable : goal.returns-then-are_storable
 returns-then-are_storable c =
     let entries = rw (c.deref.ensures.value, c.deref-2.ensures.value) at c.are_storable.ensures in
     let v = contents c.args.self.now in
-    let rest = c.are_extensions_storable.ensures in (
-      λ t. let k = rest.0 t in parts_storable v (entries.0 c.if-are_storable.true) k.0 k.1,
-      λ h. rest.1 (h.tree, h.resolve_undo),
-    )
+    let tree = c.is_tree_storable.ensures in
+    (λ t. parts_storable v (entries.0 c.if-are_storable.true) (tree.0 t), λ h. tree.1 h.tree)
 
 pub returns-else-are_storable : goal.returns-else-are_storable
 returns-else-are_storable c =

@@ -4,7 +4,7 @@ use Rattle.gix_index.specs.Order.{IsStrictlyOrdered}
 use Rattle.gix_index.specs.State.{contents, records, storage_of}
 use Rattle.index_table.specs.Refusing.{MakesNothing}
 use Rattle.index_table.specs.Updating.{AreSaidBy}
-use Rattle.index_table.proofs.Updates.{fallen, refusal_is}
+use Rattle.index_table.proofs.Updates.{fallen, granted_among, refused_among}
 use Rattle.index_table.proofs.update.make_changes.Goals as goal
 
 pub returns-in-Err : goal.returns-in-Err
@@ -30,7 +30,8 @@ returns-in-Ok-apply c =
                 c.deref.ensures.value)
                 c.in-Ok.ensures;
             room = length (storage_of c.args.state.now);
-            granted = c.in-Ok-apply.ensures.reason;
+            granted = granted_among _ c.deref.result.now (contents c.args.state.now).records ordered _
+                c.in-Ok-apply.ensures.reason;
             is = c.in-Ok-apply.ensures.updated placed ordered;
             applied = c.in-Ok-apply.ensures.applied placed ordered;
           };
@@ -52,8 +53,8 @@ returns-in-Err-Refused c =
             room = length (storage_of c.args.state.now);
             at = c.in-Err-Refused.at;
             cause = c.in-Err-Refused.cause;
-            first = refusal_is _ c.in-Err-Refused.at c.in-Err-Refused.cause
-                (rw c.in-Err-Refused.field-0-is at c.in-Err-Refused.ensures.reason);
+            first = refused_among _ c.deref.result.now (contents c.args.state.now).records ordered c.in-Err-Refused.at
+                c.in-Err-Refused.cause (rw c.in-Err-Refused.field-0-is at c.in-Err-Refused.ensures.reason);
             fault_is = c.change_fault.ensures;
           }));
     }

@@ -1,12 +1,13 @@
-use Rattle.std.proofs.Common.{ap, refl, subst, ◌∙◌}
+use Rattle.std.proofs.Common.{ap, refl, subst, sym, ◌≡◌, ◌∙◌}
 use Rattle.std.specs.Prelude.{Bool}
 use Rattle.std.proofs.lemmas.Result.{err_from_is_err_and}
+use Rattle.gix_index.specs.Contents.{Contents}
 use Rattle.gix_index.specs.Disk.World.{World}
+use Rattle.gix_index.specs.Edits.{with_time, with_version}
 use Rattle.gix_index.specs.State.{contents}
 use Rattle.gix_index.specs.File.{state_of}
-use Rattle.gix_index.specs.VersionChoice.TheVariants.{Smallest}
 use Rattle.gix_index.specs.declared.file.File.{File}
-use Rattle.index_failures.specs.Options.{rewrite_options}
+use Rattle.index_failures.specs.Options.{options_as_read}
 use Rattle.index_failures.specs.Reading.{FailsReading}
 use Rattle.index_failures.specs.Storing.{unlocked, unread, unwritten}
 use Rattle.index_failures.proofs.Replaced.{replaced}
@@ -50,20 +51,26 @@ returns-in_err-commit_at g c =
           c.in_ok-lock.ensures.beside (rw c.lock_at.ensures.manner.works at
           (c.in_err-commit_at.ensures.released (c.lock_at.ensures.manner.alone ∙ alone)));
       fault = unwritten c.in_ok-lock.lock.place (g.D.Folder.known c.lock_at.new.folder) c.in_ok-lock.ensures.locked
-          (contents (state_of c.from_state-index.result)) (rewrite_options Smallest)
+          (contents (state_of c.from_state-index.result)) c.kept_as_read-options.result
           (rw c.lock_at.ensures.manner.works at c.in_err-commit_at.ensures.fault);
     })
 
 pub returns : goal.returns
 returns g c =
     let saved = c.in-Ok.ensures.saved in
+    let version = c.in-Ok.found.0.version in
+    let holds : contents (state_of c.from_state-index.result)
+    ≡ with_version (with_time (contents c.in-Ok.found.0.state) c.in-Ok.found.1) version =
+    ap contents c.from_state-index.ensures.state ∙ c.set_version.ensures.set
+    ∙ ap (λ (v : Contents). with_version v version) c.set_timestamp.ensures.set in
     record {
       written = replaced (g.D.Folder.guards c.args.folder.now) (g.D.Folder.known c.args.folder.now)
           (g.D.Folder.known c.lock_at.new.folder) c.args.to.now c.in_ok-lock.lock.place c.in_ok-lock.ensures.locked
           (g.D.Folder.alone c.lock_at.new.folder) (g.D.Folder.alone c.args.folder.now)
-          (g.D.Folder.known c.commit_at.new.folder) c.from_state-index.result (rewrite_options Smallest)
+          (g.D.Folder.known c.commit_at.new.folder) c.from_state-index.result c.kept_as_read-options.result
           (g.D.Made.Write.contents c.in_ok-lock.lock.file)
-          (λ (w : World) (i : File). IsSalvaged w c.args.kind c.args.path.now _ i) (λ (i : File). rewrite_options Smallest)
+          (λ (w : World) (i : File). IsSalvaged c.args.all w c.args.kind c.args.path.now _ i)
+          (λ (i : File). options_as_read (contents (state_of i)).version)
           c.lock_at.ensures.manner.alone c.in_ok-lock.ensures.empty
           (record {
             saved = c.in-Ok.found.0;
@@ -72,18 +79,19 @@ returns g c =
               time = c.in-Ok.found.1;
               held = saved.1;
               since = c.in-Ok.ensures.since;
-              of_bytes = saved.2;
-              holds = ap contents c.from_state-index.ensures.state ∙ c.set_timestamp.ensures.set;
+              of_bytes = rw c.keep_of.ensures at saved.2;
+              holds = holds;
             };
             reports = record {
               names = refl;
               declared = refl;
               read = refl;
               kept = c.kept.ensures;
+              first = refl;
               fault = refl;
               shared = refl;
             };
-          }) refl c.in_ok-commit_at.ensures.written c.in_ok-commit_at.ensures.put;
+          }) (c.kept_as_read-options.ensures ∙ ap (λ (v : Contents). options_as_read v.version) (sym holds)) c.in_ok-commit_at.ensures.written c.in_ok-commit_at.ensures.put;
       restored = tt;
       fault = tt;
     }

@@ -27,6 +27,7 @@ returns-in-Ok-save g c =
             c.args.kind w shared) c.shared_index.ensures
             c.in-Ok.ensures.read;
         is = c.in-Ok-save.ensures.saved;
+        acceptable = rw c.in_ok-remains.ensures.kind at c.in-Ok-save.ensures.acceptable;
         plain = c.in-Ok-save.ensures.plain;
       };
       fault = λ works world held. tt;

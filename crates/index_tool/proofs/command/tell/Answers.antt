@@ -1,9 +1,11 @@
-use Rattle.std.proofs.Common.{false, true}
 use Rattle.index_commands.specs.Checking.{FailsToPass}
+use Rattle.index_commands.specs.Listing.{FailsToList}
 use Rattle.index_commands.specs.Trees.{FailsToTree}
-use Rattle.index_failures.specs.Reading.{FailsReading, SaysOfBytes, SaysOfIndex}
+use Rattle.index_failures.specs.Reading.{FailsReading, SaysOfBytes}
+use Rattle.index_telling.specs.Mapping.{FailsToMap}
 use Rattle.index_telling.specs.Showing.{SaysOfFileAlone}
 use Rattle.index_words.specs.declared.command.Reading.TheVariants as readings
+use Rattle.index_tool.specs.Outcome.{plain_checks, tree_checks}
 use Rattle.index_tool.proofs.Endings.{telling_refused}
 use Rattle.index_tool.proofs.command.tell.Goals as goal
 
@@ -12,26 +14,28 @@ returns-in-List g c =
     rw c.in-List.is (record {
       told = c.list.ensures.told;
       refused = telling_refused (g.D.Folder.known c.args.folder.now)
-          (FailsReading (SaysOfIndex (g.D.Folder.works c.args.folder.now) (g.D.Folder.known c.args.folder.now) c.args.kind c.args.path.now) c.args.path.now)
+          (FailsToList c.in-List.lines (g.D.Folder.works c.args.folder.now) (g.D.Folder.known c.args.folder.now) c.args.kind c.args.path.now)
           (readings.List c.in-List.lines) c.args.kind c.args.path.now _ _ _ c.list.result c.list.ensures.refused;
     })
 
 pub returns-in-Check : goal.returns-in-Check
 returns-in-Check g c =
     rw c.in-Check.is (record {
-      told = c.check.ensures.told;
+      told = rw c.plain_checks.ensures at c.check.ensures.told;
       refused = telling_refused (g.D.Folder.known c.args.folder.now)
-          (FailsToPass false (g.D.Folder.works c.args.folder.now) (g.D.Folder.known c.args.folder.now) c.args.kind c.args.path.now)
-          readings.Check c.args.kind c.args.path.now _ _ _ c.check.result c.check.ensures.refused;
+          (FailsToPass (plain_checks c.in-Check.strict) (g.D.Folder.works c.args.folder.now) (g.D.Folder.known c.args.folder.now) c.args.kind c.args.path.now)
+          (readings.Check c.in-Check.strict) c.args.kind c.args.path.now _ _ _ c.check.result
+          (rw c.plain_checks.ensures at c.check.ensures.refused);
     })
 
 pub returns-in-CheckTrees : goal.returns-in-CheckTrees
 returns-in-CheckTrees g c =
     rw c.in-CheckTrees.is (record {
-      told = c.check-in-CheckTrees.ensures.told;
+      told = rw c.tree_checks.ensures at c.check-in-CheckTrees.ensures.told;
       refused = telling_refused (g.D.Folder.known c.args.folder.now)
-          (FailsToPass true (g.D.Folder.works c.args.folder.now) (g.D.Folder.known c.args.folder.now) c.args.kind c.args.path.now)
-          readings.CheckTrees c.args.kind c.args.path.now _ _ _ c.check-in-CheckTrees.result c.check-in-CheckTrees.ensures.refused;
+          (FailsToPass (tree_checks c.in-CheckTrees.strict) (g.D.Folder.works c.args.folder.now) (g.D.Folder.known c.args.folder.now) c.args.kind c.args.path.now)
+          (readings.CheckTrees c.in-CheckTrees.strict) c.args.kind c.args.path.now _ _ _ c.check-in-CheckTrees.result
+          (rw c.tree_checks.ensures at c.check-in-CheckTrees.ensures.refused);
     })
 
 pub returns-in-Map : goal.returns-in-Map
@@ -39,7 +43,7 @@ returns-in-Map g c =
     rw c.in-Map.is (record {
       told = c.map.ensures.told;
       refused = telling_refused (g.D.Folder.known c.args.folder.now)
-          (FailsReading (SaysOfBytes (g.D.Folder.works c.args.folder.now) (g.D.Folder.known c.args.folder.now) c.args.path.now) c.args.path.now)
+          (FailsToMap c.in-Map.lines (g.D.Folder.works c.args.folder.now) (g.D.Folder.known c.args.folder.now) c.args.kind c.args.path.now)
           (readings.Map c.in-Map.lines) c.args.kind c.args.path.now _ _ _ c.map.result c.map.ensures.refused;
     })
 

@@ -4,7 +4,7 @@ use Rattle.index_updates.proofs.parts.unstage.Goals as goal
 
 pub returns : goal.returns
 returns c =
-    unstages c.args.parts.now _ c.args.path c.in_ok-count.count
+    unstages c.args.parts.now _ c.args.path c.in_ok-count.count c.in_ok-count.ensures.reason
     (λ here o.
     let kept = c.in_ok-count.ensures.kept.kept here o in
     let monitor = c.in_ok-count.ensures.kept.monitor here o in
@@ -14,6 +14,7 @@ returns c =
 
 pub returns-in_err-count : goal.returns-in_err-count
 returns-in_err-count c = record {
+  reason = search rules;
   updated = search rules;
   unstaged = search rules;
   storable = search rules;

@@ -1,11 +1,16 @@
-use Rattle.std.proofs.Common.{◌∙◌, List, ap, map, refl, subst}
+use Rattle.std.proofs.Common.{◌∙◌, List, ap, map, refl, subst, sym}
 use Rattle.index_small_extensions.specs.declared.resolve_undo.ResolvePath.{ResolvePath}
 use Rattle.index_small_extensions.specs.ResolveUndo.{path_stages}
 use Rattle.index_edits.specs.EditSteps.{record_at}
 use Rattle.index_updates.specs.Recorded.{with_side}
 use Rattle.index_updates.specs.RecordingSteps.{IsHere, IsOther, IsPlaceFor}
+use Rattle.index_updates.specs.Rising.{ArePathsRising}
 use Rattle.index_updates.proofs.Recordings.{recorded_between, recorded_over}
 use Rattle.index_updates.proofs.recording.record_side.Goals as goal
+
+pub place_for-place-requires : goal.place_for-place-requires
+place_for-place-requires c = λ t. subst (λ (l : List ResolvePath). ArePathsRising (map path_stages l))
+    (sym c.deref.ensures.value) (c.requires.rising t)
 
 pub returns-then-is_there : goal.returns-then-is_there
 returns-then-is_there c =

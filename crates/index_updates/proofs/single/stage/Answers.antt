@@ -22,11 +22,11 @@ returns-clause-kept g c =
     let cs = Stage c.args.entry c.args.path ∷ [] in
     let old = undo_paths c.args.kept.now.undo in
     let kept = λ (placed : All (IsPlaced (length s)) es) (o : IsStrictlyOrdered (records_in s es)).
-    let ordered = subst (λ l. IsStrictlyOrdered (records_in s l)) (sym c.deref.ensures.value) o in
+    let ordered = subst (λ l. IsStrictlyOrdered (records_in s l)) (sym c.deref-3.ensures.value) o in
     let there : IsKeptAfter cs (records_in s es) c.args.kept.now c.renew.new.kept = record {
       tree = c.renew.ensures.tree;
       undo = ap undo_paths c.renew.ensures.undo ∙ c.in_ok-undo.ensures ordered
-          ∙ ap (λ l. undone cs (records_in s l) old) c.deref.ensures.value;
+          ∙ ap (λ l. undone cs (records_in s l) old) c.deref-3.ensures.value;
       untracked = c.renew.ensures.untracked;
     } in there in
     record {

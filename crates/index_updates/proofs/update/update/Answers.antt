@@ -12,12 +12,12 @@ returns-in-Ok-clause-kept g c =
     let es = c.args.entries.now.items in
     let cs = c.args.changes.now in
     let kept = λ (placed : All (IsPlaced (length s)) es) (o : IsStrictlyOrdered (records_in s es)).
-    let here = subst (All (IsPlaced (length s))) (sym c.deref.ensures.value) placed in
-    let ordered = subst (λ l. IsStrictlyOrdered (records_in s l)) (sym c.deref.ensures.value) o in
+    let here = subst (All (IsPlaced (length s))) (sym c.deref-3.ensures.value) placed in
+    let ordered = subst (λ l. IsStrictlyOrdered (records_in s l)) (sym c.deref-3.ensures.value) o in
     let there : IsKeptAfter cs (records_in s es) c.args.kept.now c.renew.new.kept = record {
       tree = c.renew.ensures.tree;
       undo = ap undo_paths c.renew.ensures.undo ∙ c.in-Ok.ensures.made.undone here ordered
-          ∙ ap (λ l. undone cs (records_in s l) (undo_paths c.args.kept.now.undo)) c.deref.ensures.value;
+          ∙ ap (λ l. undone cs (records_in s l) (undo_paths c.args.kept.now.undo)) c.deref-3.ensures.value;
       untracked = c.renew.ensures.untracked;
     } in there in
     record {

@@ -46,7 +46,7 @@ returns-clause-undone c = λ o.
     c.new.ensures ∙ ap (λ x. records_in x c.deref-2.result.now) c.deref-3.ensures.value
     ∙ ap (records_in s) c.deref-2.ensures.value in
     let told = subst (λ rs. IsStrictlyOrdered rs → undo_paths c.record_lost.new.undo ≡ all_recorded (lost change rs) undo)
-    there c.in_ok-record_lost.ensures in
+    there c.in_ok-record_lost.ensures.added in
     told (mid_ordered change s done c.args.rest.now mid c.in_ok-count.count c.in_ok-count.ensures.copied (beyond c) o)
     ∙ ap (λ l. all_recorded l undo)
     (next_lost change s done c.args.rest.now mid c.in_ok-count.count c.in_ok-count.ensures.copied (beyond c) o)

@@ -1,18 +1,15 @@
-use Rattle.std.proofs.Common.{◌≡◌, ◌-◌, ◌^◌, length, take}
-use Rattle.std.specs.Io.KnownBytes.{Consumes}
-use Rattle.index_parts.specs.Digest.{hasher_kind, Holds}
-use Rattle.index_parts.specs.Id.{id_len}
+use Rattle.std.proofs.Common.{◌≡◌, ◌≤◌, ◌-◌, ◌^◌}
+use Rattle.index_window.proofs.Hashed.{IsHashedOn}
 use Rattle.index_window.proofs.disk.read_hashed.Given as goal
 
 abbrev pub invariant-pieces : goal.invariant-pieces
 invariant-pieces g l =
     record {
-      kind : hasher_kind l.hasher ≡ l.kind;
-      end : l.hashed ≡ length l.bytes.items - id_len l.kind;
-      holds : Holds l.hasher (take l.hashed l.bytes.items);
+      so_far : IsHashedOn l.kind l.is_held (g.S.Source.remaining l.fn.file) (g.S.Source.remaining l.file) l.hasher
+          l.fn.bytes.items l.bytes.items l.hashed;
+      len : l.len ≤ 2 ^ 63;
       works : g.S.Source.works l.file ≡ g.S.Source.works l.fn.file;
-      read : Consumes (g.S.Source.remaining l.fn.file) (g.S.Source.remaining l.file) l.bytes.items;
     }
 
 abbrev pub decreases-pieces : goal.decreases-pieces
-decreases-pieces g l = 2 ^ 64 - length l.bytes.items
+decreases-pieces g l = 2 ^ 64 - l.len

@@ -40,7 +40,7 @@ returns-in_err-put g c =
               (trailer v c.args.options) c.as_bytes.result.now (c.as_bytes.ensures.bytes
               ∙ ap id_bytes c.in_ok-version.ensures.answer.id ∙ id_bytes-make_id v.kind (trailer v c.args.options))
               c.in_ok-version.ensures.answer.bytes.0 c.in_err-put.ensures.bytes,
-          λ unfailed. c.in_err-put.ensures.has_failed (c.in_ok-version.ensures.answer.bytes.1 unfailed),
+          c.in_err-put.ensures.has_failed,
         );
         too_many = search rules;
         nul_in_path = search rules;

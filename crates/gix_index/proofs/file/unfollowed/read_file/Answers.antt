@@ -1,5 +1,7 @@
-use Rattle.std.proofs.Common.{inl, ◌∙◌}
-use Rattle.gix_index.proofs.Checks.{to_file}
+use Rattle.std.proofs.Common.{inl, List, Option, subst, ℕ, ◌∙◌}
+use Rattle.index_folder.specs.World.{Stored}
+use Rattle.index_window.specs.Answers.{IsAllOf}
+use Rattle.gix_index.proofs.Checks.{refused_says, to_file}
 use Rattle.gix_index.proofs.FileFaults.{held_by}
 use Rattle.gix_index.proofs.file.unfollowed.read_file.Goals as goal
 
@@ -21,3 +23,15 @@ returns-in-Err-clause-fault g c = c.read_fault.ensures _ _ (λ is. inl (c.in-Err
 pub returns-in-Err-bytes_of-clause-fault : goal.returns-in-Err-bytes_of-clause-fault
 returns-in-Err-bytes_of-clause-fault g c = c.read_fault-in-Err-bytes_of.ensures _ _
     (λ is. inl (c.in-Err-bytes_of.ensures.fault (c.in_windows.ensures.left.works ∙ is))) _ _ _ _
+
+pub returns-in-Ok-Refused-clause-fault : goal.returns-in-Ok-Refused-clause-fault
+returns-in-Ok-Refused-clause-fault g c =
+    let h = rw c.in-Ok-Refused.field-0-is at c.in-Ok-Refused.ensures.whole in
+    let r = c.args.reading in
+    let bytes : List ℕ = h.bytes in
+    let held : IsAllOf (g.S.Source.stored c.args.file) bytes =
+    subst (λ (s : Option Stored). IsAllOf s bytes) c.in_windows.ensures.left.stored h.whole in (
+      bytes,
+      held_by (g.S.Source.stored c.args.file) bytes held,
+      refused_says r.skip_hash r.object_hash r.timestamp r.options bytes h.fault _ h.header h.refusal,
+    )

@@ -1,32 +1,68 @@
-use Rattle.std.proofs.Common.{ap, inl, option_map, refl, sym, length, ◌∙◌}
+use Rattle.std.proofs.Common.{List, ap, inl, option_map, refl, subst, sym, length, ◌∙◌}
 use Rattle.std.proofs.lemmas.List.{length-map}
 use Rattle.std.proofs.lemmas.Result.{err_from_is_err_and}
+use Rattle.gix_index.specs.Kind.{Kind}
+use Rattle.gix_index.specs.Record.{Record}
+use Rattle.gix_index.specs.Sorted.{IsOrdered}
 use Rattle.gix_index.specs.State.{contents, records}
+use Rattle.index_inspect.specs.Accepted.{AreAcceptable}
+use Rattle.index_inspect.specs.Choice.{IsKept, TellsFirst}
+use Rattle.index_inspect.specs.Salvage.{looked_at}
 use Rattle.index_inspect.proofs.Completing.{merged_or_own, merges_or_sorts}
-use Rattle.index_inspect.proofs.Saved.{index_itself, kind_is}
+use Rattle.index_inspect.proofs.Looking.{looked_ordered}
+use Rattle.index_inspect.proofs.Saved.{index_itself, kind_is, stays_then}
 use Rattle.index_inspect.proofs.remains.Remains.save.Goals as goal
+
+pub chosen-requires : goal.chosen-requires
+chosen-requires c =
+    rw c.path_backing.ensures at (rw c.entries.ensures at (rw c.new.ensures at c.first_unfit-first.ensures))
 
 pub returns-clause-kind : goal.returns-clause-kind
 returns-clause-kind c =
     let own = c.in_ok-state.ensures.completed.index c.requires.plain in
-    let kept = c.in_ok-state-2.ensures.index (index_itself _ _ _ own) in
+    let kept = stays_then c.in_ok-state.field-0.state c.looked_at-state.result c.in_ok-state-2.state
+    c.looked_at-state.ensures.index c.in_ok-state-2.ensures.index (index_itself _ _ _ own) in
     c.marked-state.ensures.kind ∙ kind_is _ _ _ kept ∙ c.in_ok-state.ensures.completed.same_kind
 
 pub returns-clause-plain : goal.returns-clause-plain
 returns-clause-plain c =
     let own = c.in_ok-state.ensures.completed.index c.requires.plain in
-    let kept = c.in_ok-state-2.ensures.index (index_itself _ _ _ own) in
+    let kept = stays_then c.in_ok-state.field-0.state c.looked_at-state.result c.in_ok-state-2.state
+    c.looked_at-state.ensures.index c.in_ok-state-2.ensures.index (index_itself _ _ _ own) in
     c.marked-state.ensures.plain (index_itself _ _ _ kept)
 
+pub returns-clause-acceptable : goal.returns-clause-acceptable
+returns-clause-acceptable c =
+    subst (λ (k : Kind). AreAcceptable k (records c.marked-state.result)) c.object_hash-kind.ensures
+    (subst (AreAcceptable c.object_hash-kind.result) (sym c.marked-state.ensures.records)
+    c.in_ok-state-2.ensures.acceptable)
+
 pub returns-clause-saved : goal.returns-clause-saved
-returns-clause-saved c = record {
-  all = records c.in_ok-state.field-0.state;
-  completed = c.in_ok-state.ensures.completed.is;
-  saved = rw c.marked-state.ensures.records c.in_ok-state-2.ensures.saved;
-  declared = refl;
-  read = ap length c.entries-read.ensures ∙ sym (length-map _ _);
-  fault = refl;
-}
+returns-clause-saved c =
+    let own = c.in_ok-state.field-0.state in
+    let looked = c.looked_at-state.result in
+    let first = c.first_unfit-first.result in
+    let fate = c.in_ok-state.field-0.shared in
+    let seen : TellsFirst c.object_hash-kind.result (records looked) first =
+    rw c.path_backing.ensures at (rw c.entries.ensures at (rw c.new.ensures at c.first_unfit-first.ensures)) in
+    let kept = c.in_ok-state-2.ensures.kept in
+    record {
+      all = records own;
+      completed = c.in_ok-state.ensures.completed.is;
+      first = subst (λ (k : Kind). TellsFirst k (looked_at fate (records own)) first) c.object_hash-kind.ensures
+          (subst (λ (l : List Record). TellsFirst c.object_hash-kind.result l first) c.looked_at-state.ensures.records
+          seen);
+      kept = subst (λ (k : Kind). IsKept c.args.keep k (looked_at fate (records own)) first (records c.marked-state.result))
+          c.object_hash-kind.ensures
+          (subst (λ (l : List Record). IsKept c.args.keep c.object_hash-kind.result l first
+          (records c.marked-state.result)) c.looked_at-state.ensures.records
+          (subst (λ (l : List Record). IsKept c.args.keep c.object_hash-kind.result (records looked) first l)
+          (sym c.marked-state.ensures.records) kept));
+      version = refl;
+      declared = refl;
+      read = ap length c.entries-read.ensures ∙ sym (length-map _ _);
+      fault = refl;
+    }
 
 pub returns-in_err-state-clause-memory : goal.returns-in_err-state-clause-memory
 returns-in_err-state-clause-memory c =
@@ -36,5 +72,9 @@ returns-in_err-state-clause-memory c =
 pub returns-in_err-state-2-clause-memory : goal.returns-in_err-state-2-clause-memory
 returns-in_err-state-2-clause-memory c =
     let p = err_from_is_err_and c.from_residual-in_err-state-2.result c.from_residual-in_err-state-2.ensures.1 in
-    rw p.1 (merges_or_sorts c.args.self (option_map contents c.args.shared) (records c.in_ok-state.field-0.state)
-    (merged_or_own _ _ _ _ _ _ c.in_ok-state.ensures.completed.is) c.in_err-state-2.ensures.memory)
+    let own = c.in_ok-state.field-0.state in
+    let m = c.in_err-state-2.ensures.memory in
+    rw p.1 (merges_or_sorts c.args.keep c.args.self (option_map contents c.args.shared) (records own)
+    (merged_or_own _ _ _ _ _ _ c.in_ok-state.ensures.completed.is) m.0
+    (λ up. m.1 (subst IsOrdered (sym c.looked_at-state.ensures.records)
+    (looked_ordered c.in_ok-state.field-0.shared (records own) up))))

@@ -1,0 +1,2 @@
+mod Besides
+mod Sound

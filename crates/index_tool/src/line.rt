@@ -1,0 +1,78 @@
+//! Lines for people: each has a bound, and goes out at once, so that lines of two programs don't mix.
+
+ghost use Rattle.std.specs.Prelude.{◌≤◌};
+
+use std::fmt::Write as _;
+use std::{fmt, io};
+
+/// So many bytes a line has at most, with the newline at its end.
+const MAX_LEN: usize = 4096;
+
+/// What stands at the end of a line that is cut.
+const CUT: [u8; 3] = [b'.', b'.', b'\n'];
+
+/// So many bytes of the text fit, with room for what stands behind a cut.
+const TEXT_LEN: usize = 4093;
+
+/// A line that is put together before it goes out. Its room is on the stack, so that want of memory is told too.
+#[derive(Drop)]
+pub struct Line {
+    bytes: [u8; MAX_LEN],
+    len: usize,
+    is_cut: bool,
+    ghost has_room: { len ≤ 4093 },
+}
+
+impl Line {
+    /// A line without any text.
+    fn new() -> Line {
+        Line {
+            bytes: [0; MAX_LEN],
+            len: 0,
+            is_cut: false,
+        }
+    }
+
+    /// Writes the line by one call, with `..` and a newline at its end where it was cut. That it can't be written is
+    /// told nowhere.
+    fn put<E: io::Write>(mut self, out: &mut E) {
+        let mut len = self.len;
+        if self.is_cut {
+            self.bytes[len..len + CUT.len()].copy_from_slice(&CUT);
+            len += CUT.len();
+        }
+        let _ = out.write_all(&self.bytes[..len]);
+    }
+}
+
+/// Text is taken as far as there is room. The error says that the rest was cut, which ends the formatting.
+impl fmt::Write for Line {
+    fn write_str(&mut self, text: &str) -> fmt::Result {
+        let mut count = text.len();
+        if self.is_cut || count > TEXT_LEN - self.len {
+            count = text.floor_char_boundary(TEXT_LEN - self.len);
+            self.is_cut = true;
+        }
+        let end = self.len + count;
+        self.bytes[self.len..end].copy_from_slice(&text.as_bytes()[..count]);
+        self.len = end;
+        if self.is_cut {
+            return Err(fmt::Error);
+        }
+        Ok(())
+    }
+}
+
+/// Writes a text that ends with a newline by one call, cut behind 4093 bytes.
+pub fn put_text<E: io::Write, T: fmt::Display>(out: &mut E, text: &T) {
+    let mut line = Line::new();
+    let _ = write!(line, "{text}");
+    line.put(out);
+}
+
+/// Writes the line of the program's name and a text, in the same way.
+pub fn put_line<E: io::Write, T: fmt::Display>(out: &mut E, text: &T) {
+    let mut line = Line::new();
+    let _ = writeln!(line, "index-tool: {text}");
+    line.put(out);
+}
