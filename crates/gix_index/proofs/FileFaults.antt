@@ -5,7 +5,10 @@ use Rattle.std.specs.declared.io.Error.{Error as IoError}
 use Rattle.index_parts.specs.declared.hash.Kind.{Kind}
 use Rattle.index_parts.specs.declared.hash.ObjectId.{ObjectId}
 use Rattle.index_metadata.specs.declared.entry.stat.FileTime.{FileTime}
+use Rattle.index_folder.proofs.Sizes.{own_fault_at}
+use Rattle.index_folder.specs.Sizes.{IsOwnFault}
 use Rattle.index_folder.specs.World.{Absent, Directory, Holds, IsFaultOf, Known, Leads, MayBe, Special, Stored, Unknown, World}
+use Rattle.index_folder.specs.World.{whole_of}
 use Rattle.index_folder.specs.declared.fault.PathError.{PathError}
 use Rattle.index_format.specs.Contents.{Contents}
 use Rattle.index_format.specs.declared.decode.Options.{Options}
@@ -38,12 +41,19 @@ opened_so (Leads to) stored P e h = tt
 opened_so Directory stored P e h = tt
 opened_so Special stored P e h = tt
 
+-- a fault of an open file, by what is known of it
+pub fault_of_open : (stored : Option Stored) (e : IoError) → IsOwnFault (whole_of stored) e
+    → IsFaultOf (known_of stored) e
+fault_of_open None e h = inl h
+fault_of_open (Some file) e h = inl h
+
 -- an opened file isn't missing
-fault_of_opened : (k : Known) (stored : Option Stored) (e : IoError) → IsFaultOf (known_of stored) e → IsFaultOf k e
-fault_of_opened k None e (inl h) = inl h
-fault_of_opened k (Some file) e (inl h) = inl h
-fault_of_opened k None e (inr h) = absurd h.1
-fault_of_opened k (Some file) e (inr h) = absurd h.1
+fault_of_opened : (k : Known) (stored : Option Stored) (e : IoError) → MayBe k (λ there. stored ≡ Some there)
+    → IsFaultOf (known_of stored) e → IsFaultOf k e
+fault_of_opened k None e there (inl h) = own_fault_at k None e there h
+fault_of_opened k (Some file) e there (inl h) = own_fault_at k (Some file) e there h
+fault_of_opened k None e there (inr h) = absurd h.1
+fault_of_opened k (Some file) e there (inr h) = absurd h.1
 
 -- bytes that are those of an open file, where they are known
 pub held_by : (stored : Option Stored) (bytes : List ℕ) → IfSome stored (λ whole. bytes ≡ whole.bytes)
@@ -74,15 +84,16 @@ module _ (skip : Bool) (kind : Kind) (time : FileTime) (options : Options) where
   }
 
   own_there : (path : List ℕ) (w fw : Bool) (k : Known) (stored : Option Stored) (fault : PathError)
-      → (w ≡ true → fw ≡ true) → IsOfFile path fw (known_of stored) fault → IsOfFile path w k fault
-  own_there path w fw k stored fault works h =
-      (h.0, h.1, λ is. fault_of_opened k stored fault.error (h.2 (works is)))
+      → (w ≡ true → fw ≡ true) → MayBe k (λ there. stored ≡ Some there) → IsOfFile path fw (known_of stored) fault
+      → IsOfFile path w k fault
+  own_there path w fw k stored fault works o h =
+      (h.0, h.1, λ is. fault_of_opened k stored fault.error o (h.2 (works is)))
 
   pub fault_there : (path : List ℕ) (w fw : Bool) (k : Known) (stored : Option Stored) (e : Error)
       → (w ≡ true → fw ≡ true) → MayBe k (λ there. stored ≡ Some there)
       → SaysOfFile path fw (known_of stored) skip kind time options e
       → SaysOfFile path w k skip kind time options e
-  fault_there path w fw k stored (errors.Io fault) works o h = own_there path w fw k stored fault works h
+  fault_there path w fw k stored (errors.Io fault) works o h = own_there path w fw k stored fault works o h
   fault_there path w fw k stored (errors.Decode e) works o h =
       (h.0, opened_so k stored (λ file. h.0 ≡ file.bytes) o h.1, h.2)
   fault_there path w fw k stored (errors.LinkExtension e) works o h = h
@@ -142,7 +153,7 @@ module _ (skip : Bool) (kind : Kind) (time : FileTime) (options : Options) where
       → SaysOfFiles path w (record { own = known_of stored; shared = shared }) skip kind time options e
       → SaysOfFiles path w (record { own = k; shared = shared }) skip kind time options e
   faults_there path w k stored shared (errors.Io fault) o (inl h) =
-      inl (own_there path w w k stored fault (λ is. is) h)
+      inl (own_there path w w k stored fault (λ is. is) o h)
   faults_there path w k stored shared (errors.Io fault) o (inr h) = inr (record {
     split = h.split;
     checksum = h.checksum;

@@ -98,19 +98,19 @@ module _ (skip : Bool) (kind : Kind) (options : Options) where
   )
 
   -- under a lock
-  pub locked_read : (given : FileTime) (world : World) (at target path : List ℕ) (f : File) (default : Bool)
-      → at ≡ target
+  pub locked_read : (Changed : FileTime → Type 0) (given : FileTime) (world : World) (at target path : List ℕ) (f : File)
+      (default : Bool) → Changed given → at ≡ target
       → ((t : FileTime) × IsTimeFor true given (world at) t
       × IsOnDisk (disk_beside (world at) world path) skip kind t options (contents (state_of f)) (checksum_of f))
       ⊎ (IsTrue default × MayBeMissing (world at) × IsEmptyFile kind given f)
       → IsOnDiskSince (disk_beside (world target) world path) skip kind options (contents (state_of f)) (checksum_of f)
-      ⊎ (IsTrue default × MayBeMissing (world target) × ((t : FileTime) × IsEmptyFile kind t f))
-  locked_read given world at target path f default same (inl h) = inl (
+      ⊎ (IsTrue default × MayBeMissing (world target) × ((t : FileTime) × Changed t × IsEmptyFile kind t f))
+  locked_read Changed given world at target path f default told same (inl h) = inl (
       subst (λ (x : List ℕ). IsOnDiskSince (disk_beside (world x) world path) skip kind options (contents (state_of f))
       (checksum_of f)) same (since skip kind options (disk_beside (world at) world path) h.0 (contents (state_of f))
       (checksum_of f) h.1 h.2))
-  locked_read given world at target path f default same (inr h) =
-      inr (h.0, subst (λ (x : List ℕ). MayBeMissing (world x)) same h.1, (given, h.2))
+  locked_read Changed given world at target path f default told same (inr h) =
+      inr (h.0, subst (λ (x : List ℕ). MayBeMissing (world x)) same h.1, (given, told, h.2))
 
   pub locked_fault : (works then : Bool) (guards : Bool) (W : FileTime → Type 0) (old behind : World)
       (path target at lock : List ℕ) (e : Error) → then ≡ works → at ≡ target → LeadsTo old 5 path target

@@ -122,10 +122,10 @@ pub record ReadsAloneAt {D F M : Type 0} (folder : Ghosts D F M) (now : D) (path
 -- ---- locking
 
 -- what was read behind the lock
-abbrev pub IsReadBehind : {D F M : Type 0} → Ghosts D F M → D → PathBuf Global → Bool → Kind → Options → Bool → Locked M
-    → Type 0
-IsReadBehind folder new path skip kind options or_default x =
-    IsReadUnder (folder.known new) path skip kind options or_default x.lock.place x.file
+abbrev pub IsReadBehind : {D F M : Type 0} → Ghosts D F M → (M → FileTime → Type 0) → D → PathBuf Global → Bool → Kind
+    → Options → Bool → Locked M → Type 0
+IsReadBehind folder changed new path skip kind options or_default x =
+    IsReadUnder (folder.known new) path skip kind options or_default x.lock.place (changed x.lock.file) x.file
 
 -- it has this path, and links to no shared index
 abbrev pub IsLockedWhole : {M : Type 0} → List ℕ → Kind → Locked M → Type 0

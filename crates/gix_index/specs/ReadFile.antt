@@ -149,9 +149,12 @@ pub record Opens (works : Bool) (world : World) (path : PathBuf Global) (skip : 
   pub fault : IfErr r (λ e. (time : FileTime) × SaysOfFiles (path_buf_bytes path) works
       (disk_at world (path_buf_bytes path)) skip kind time options e)
 
--- the index behind a lock that was made, or an empty one where there may be no file
-abbrev pub IsReadUnder : World → PathBuf Global → Bool → Kind → Options → Bool → Place → File → Type 0
-IsReadUnder world path skip kind options or_default place f =
+-- The index behind a lock that was made; or an empty one where there may be no file, as of the time at which the lock
+-- was changed last.
+abbrev pub IsReadUnder : World → PathBuf Global → Bool → Kind → Options → Bool → Place → (FileTime → Type 0) → File
+    → Type 0
+IsReadUnder world path skip kind options or_default place Changed f =
     IsOnDiskSince (disk_beside (world (target_of place)) world (path_buf_bytes path)) skip kind options
     (contents (state_of f)) (checksum_of f)
-    ⊎ (IsTrue or_default × MayBeMissing (world (target_of place)) × ((time : FileTime) × IsEmptyFile kind time f))
+    ⊎ (IsTrue or_default × MayBeMissing (world (target_of place))
+    × ((time : FileTime) × Changed time × IsEmptyFile kind time f))

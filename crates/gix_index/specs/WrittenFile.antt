@@ -10,7 +10,7 @@ use Rattle.std.specs.Prelude.{if◌then◌else◌}
 use Rattle.index_parts.specs.Taking.{Hashes}
 use Rattle.index_parts.specs.declared.hash.Kind.{Kind}
 use Rattle.index_parts.specs.declared.hash.io.Out.{Ghosts as OutGhosts}
-use Rattle.index_folder.specs.Locks.{IsReleased, asked_of, lock_of}
+use Rattle.index_folder.specs.Locks.{IsReleased, asked_of, lock_of, target_of}
 use Rattle.index_folder.specs.World.{World}
 use Rattle.index_folder.specs.declared.folder.Folder.{Ghosts}
 use Rattle.index_folder.specs.declared.lock.Lock.{Lock}
@@ -138,20 +138,26 @@ StoresByLock folder bytes_of old new lock f options =
     folder.alone old ≡ true → bytes_of lock.file ≡ Some []
     → IsPutSince (folder.known old) (folder.known new) lock.place (contents (state_of f)) options
 
+-- all bytes were on the disk before they took the place of the file that was locked
+abbrev pub SyncsLock : {D F M : Type 0} → Ghosts D F M → D → Lock M → Type 0
+SyncsLock folder new lock = folder.durable new (target_of lock.place)
+
 -- where nothing else writes there, the lock was given up
 abbrev pub ReleasesLock : {D F M : Type 0} → Ghosts D F M → D → D → Lock M → Type 0
 ReleasesLock folder old new lock =
     folder.alone old ≡ true → IsReleased (folder.works old) (folder.known old) (folder.known new) (lock_of lock.place)
 
--- An index was written to a lock that took the place of its file, or was given up: the path that was asked for, and the
--- version and the id that were written.
+-- An index was written to a lock that took the place of its file, once synced where that is wanted, or was given up: the
+-- path that was asked for, and the version and the id that were written.
 pub record Saves {D F M : Type 0} (folder : Ghosts D F M) (bytes_of : M → Option (List ℕ)) (old new : D) (f : File)
-    (lock : Lock M) (options : Options) (r : Result (PathBuf Global × Version × ObjectId) WriteFault) : Type 0 where
+    (lock : Lock M) (options : Options) (is_synced : Bool)
+    (r : Result (PathBuf Global × Version × ObjectId) WriteFault) : Type 0 where
   pub path : IfOk r (λ x. path_buf_bytes x.0 ≡ asked_of lock.place)
   pub version : IfOk r (λ x. x.1 ≡ version_of f options)
   pub id : IfOk r (λ x. x.2 ≡ id_of f options)
   pub writable : OnOk r (IsWritable (contents (state_of f)) options)
   pub put : OnOk r (StoresByLock folder bytes_of old new lock f options)
+  pub synced : OnOk r (is_synced ≡ true → SyncsLock folder new lock)
   pub released : OnErr r (ReleasesLock folder old new lock)
   pub fault : IfErr r (SaysOfCommittingFile (folder.works old) lock.place f options)
   pub alone : folder.alone new ≡ folder.alone old
@@ -159,11 +165,13 @@ pub record Saves {D F M : Type 0} (folder : Ghosts D F M) (bytes_of : M → Opti
 
 -- The same of an index that has this path, version and checksum then, or else is as it was.
 pub record SavesFile {D F M : Type 0} (folder : Ghosts D F M) (bytes_of : M → Option (List ℕ)) (old new : D)
-    (before after : File) (lock : Lock M) (options : Options) (r : Result (Unit {0}) WriteFault) : Type 0 where
+    (before after : File) (lock : Lock M) (options : Options) (is_synced : Bool) (r : Result (Unit {0}) WriteFault)
+    : Type 0 where
   pub ok : OnOk r (IsWrittenTo (asked_of lock.place) before after options)
   pub err : OnErr r (after ≡ before)
   pub writable : OnOk r (IsWritable (contents (state_of before)) options)
   pub put : OnOk r (StoresByLock folder bytes_of old new lock before options)
+  pub synced : OnOk r (is_synced ≡ true → SyncsLock folder new lock)
   pub released : OnErr r (ReleasesLock folder old new lock)
   pub fault : IfErr r (SaysOfCommittingFile (folder.works old) lock.place before options)
   pub alone : folder.alone new ≡ folder.alone old
@@ -171,9 +179,10 @@ pub record SavesFile {D F M : Type 0} (folder : Ghosts D F M) (bytes_of : M → 
 
 -- The same of an index with its lock.
 pub record SavesLocked {D F M : Type 0} (folder : Ghosts D F M) (bytes_of : M → Option (List ℕ)) (old new : D)
-    (locked : Locked M) (options : Options) (r : Result File WriteFault) : Type 0 where
+    (locked : Locked M) (options : Options) (is_synced : Bool) (r : Result File WriteFault) : Type 0 where
   pub ok : IfOk r (λ f. IsWrittenTo (asked_of locked.lock.place) locked.file f options)
   pub writable : OnOk r (IsWritable (contents (state_of locked.file)) options)
   pub put : OnOk r (StoresByLock folder bytes_of old new locked.lock locked.file options)
+  pub synced : OnOk r (is_synced ≡ true → SyncsLock folder new locked.lock)
   pub released : OnErr r (ReleasesLock folder old new locked.lock)
   pub fault : IfErr r (SaysOfCommittingFile (folder.works old) locked.lock.place locked.file options)

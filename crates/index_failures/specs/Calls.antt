@@ -17,7 +17,7 @@ use Rattle.gix_index.specs.InPlace.Locks.{IsReleased, asked_of, lock_of, target_
 use Rattle.gix_index.specs.Kind.{Kind}
 use Rattle.gix_index.specs.State.{PathsInStorage, contents}
 use Rattle.gix_index.specs.WriteOptions.{Options}
-use Rattle.gix_index.specs.WrittenFile.{IsWrittenTo}
+use Rattle.gix_index.specs.WrittenFile.{IsWrittenTo, SyncsLock}
 use Rattle.gix_index.specs.declared.file.File.{File}
 use Rattle.gix_index.specs.OnDisk.FolderTrait.{Ghosts}
 use Rattle.gix_index.specs.InPlace.Lock.{Lock}
@@ -98,12 +98,14 @@ pub record LocksTarget {S F M : Type 0} (folder : Ghosts S F M) (made : M → Op
   pub fault : IfErr answer (FailsLocking (folder.works old) (folder.known old) to)
   pub manner : KeepsManner folder old new
 
--- The index was written in the place of the file that was locked, by these options; or the lock was given up, and why.
+-- The index was written in the place of the file that was locked, by these options, once all its bytes were on the disk;
+-- or the lock was given up, and why.
 pub record CommitsIndex {S F M : Type 0} (folder : Ghosts S F M) (made : M → Option (List ℕ)) (old new : S) (lock : Lock M)
     (index : File) (options : Options) (to : List ℕ) (answer : Result (Unit {0}) Failure) : Type 0 where
   pub written : OnOk answer ((written : File) × IsWrittenTo (asked_of lock.place) index written options)
   pub put : OnOk answer (folder.alone old ≡ true → made lock.file ≡ Some []
       → IsPutSince (folder.known old) (folder.known new) lock.place (contents (state_of index)) options)
+  pub synced : OnOk answer (SyncsLock folder new lock)
   pub released : OnErr answer (folder.alone old ≡ true
       → IsReleased (folder.works old) (folder.known old) (folder.known new) (lock_of lock.place))
   pub fault : IfErr answer

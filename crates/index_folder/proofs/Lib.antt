@@ -1,3 +1,4 @@
 pub mod Links
 pub mod Moved
 pub mod Readers
+pub mod Sizes

@@ -1,5 +1,5 @@
 -- Where symbolic links lead, one after another.
-use Rattle.std.proofs.Common.{◌≡◌, ◌+◌, ◌<◌, ℕ, List, [], refl, ap, subst, ◌∙◌, arith, inl, inr}
+use Rattle.std.proofs.Common.{◌≡◌, ◌≢◌, ◌+◌, ◌<◌, ℕ, List, [], refl, ap, subst, ◌∙◌, arith, inl, inr}
 use Rattle.std.specs.Prelude.{◌⊎◌}
 use Rattle.std.specs.Path.{path_with_file_name}
 use Rattle.index_folder.specs.Locks.{Follows, LeadsTo, MayEnd, Meets, on}
@@ -15,6 +15,14 @@ seen_file (Holds file) e = tt
 seen_file (Leads to) e = absurd cc
 seen_file Directory e = absurd cc
 seen_file Special e = absurd cc
+
+file_is_there : (k : Known) → IsSeen k standings.File → k ≢ Absent
+file_is_there Unknown h e = absurd cc
+file_is_there Absent h e = absurd cc
+file_is_there (Holds file) h e = absurd cc
+file_is_there (Leads to) h e = absurd cc
+file_is_there Directory h e = absurd cc
+file_is_there Special h e = absurd cc
 
 seen_nothing : (k : Known) → IsSeen k standings.Nothing → MayEnd k
 seen_nothing Unknown e = tt
@@ -47,13 +55,25 @@ module _ (world : World) (path target seen : List ℕ) (links : ℕ) (follows : 
       → LeadsTo world 5 path target
   ends_at_file s is few h =
       let m = meets s standings.File is few h in
-      record { links = links; few = m.few; follows = follows; ends = seen_file (world target) m.seen }
+      record {
+        links = links;
+        few = m.few;
+        follows = follows;
+        ends = seen_file (world target) m.seen;
+        nowhere = λ e. absurd (file_is_there (world target) m.seen e);
+      }
 
-  pub ends_at_nothing : (s : Standing) → s ≡ standings.Nothing → links < 6 → IsSeen (world seen) s
+  pub ends_at_nothing : (s : Standing) → s ≡ standings.Nothing → links < 6 → links ≡ 0 → IsSeen (world seen) s
       → LeadsTo world 5 path target
-  ends_at_nothing s is few h =
+  ends_at_nothing s is few none h =
       let m = meets s standings.Nothing is few h in
-      record { links = links; few = m.few; follows = follows; ends = seen_nothing (world target) m.seen }
+      record {
+        links = links;
+        few = m.few;
+        follows = follows;
+        ends = seen_nothing (world target) m.seen;
+        nowhere = λ _. none;
+      }
 
   pub leads_on : (text next : List ℕ) → MayLead (world seen) text → next ≡ path_with_file_name seen text
       → Follows world path (links + 1) next

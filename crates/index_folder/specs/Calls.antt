@@ -88,16 +88,18 @@ pub record RemovesFile {D : Type 0} (world_of : D → World) (alone_at works_at 
   pub alone : alone_at new ≡ alone_at old
   pub works : works_at new ≡ works_at old
 
--- what was written to a file that was made stays, and each time that it was given
-pub record KeepsMade {M : Type 0} (bytes_of : M → Option (List ℕ)) (Given : M → FileTime → Type 0) (old new : M)
+-- what was written to a file that was made stays, and when it was changed last
+pub record KeepsMade {M : Type 0} (bytes_of : M → Option (List ℕ)) (Changed : M → FileTime → Type 0) (old new : M)
     (works : Bool) (result : Result (Unit {0}) Error) : Type 0 where
   pub contents : bytes_of new ≡ bytes_of old
-  pub given : (time : FileTime) → Given old time → Given new time
+  pub kept : (time : FileTime) → Changed old time → Changed new time
+  pub ungiven : (time : FileTime) → Changed new time → Changed old time
   pub succeeds : works ≡ true → IsOk result
 
--- what was written to it stays, and it was given the time
-pub record GivesTime {M : Type 0} (bytes_of : M → Option (List ℕ)) (Given : M → FileTime → Type 0) (old new : M)
+-- what was written to it stays, and it was given the time, and no other
+pub record GivesTime {M : Type 0} (bytes_of : M → Option (List ℕ)) (Changed : M → FileTime → Type 0) (old new : M)
     (works : Bool) (time : FileTime) (result : Result (Unit {0}) Error) : Type 0 where
   pub contents : bytes_of new ≡ bytes_of old
-  pub given : OnOk result (Given new time)
+  pub given : OnOk result (Changed new time)
+  pub alone : (other : FileTime) → Changed new other → (other ≡ time) ⊎ Changed old other
   pub succeeds : works ≡ true → IsOk result

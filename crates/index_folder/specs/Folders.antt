@@ -1,5 +1,6 @@
 -- What a call on a place for files answers and leaves, over all that is known of the place (the library's own).
-use Rattle.std.specs.Prelude.{◌≡◌, ◌⊎◌, ◌++◌, ℕ, List, [], codes, true, Option, Some, Result, IfErr, IfOk, OnErr, OnOk}
+use Rattle.std.specs.Prelude.{◌≡◌, ◌⊎◌, ◌≤◌, ◌++◌, ℕ, List, [], codes, length, Bool, true, Option, Some, Result, IfErr}
+use Rattle.std.specs.Prelude.{IfOk, OnErr, OnOk}
 use Rattle.std.specs.IoError.{error_kind}
 use Rattle.std.specs.Path.{path_buf_bytes, path_bytes, path_with_file_name}
 use Rattle.std.specs.Global.{Global, Vec}
@@ -11,6 +12,7 @@ use Rattle.index_metadata.specs.declared.entry.stat.FileTime.{FileTime}
 use Rattle.index_folder.specs.Calls.{FailsAs}
 use Rattle.index_folder.specs.Locks.{IsCommitted, IsReleased, LeadsTo, SaysOfCommit, SaysOfLock, asked_of, lock_of}
 use Rattle.index_folder.specs.Locks.{target_of}
+use Rattle.index_folder.specs.Sizes.{max_len}
 use Rattle.index_folder.specs.World.{Makes, MayBe, MayBeNoLink, MayLead, Stored}
 use Rattle.index_folder.specs.declared.folder.Folder.{Ghosts}
 use Rattle.index_folder.specs.declared.lock.CommitError.{CommitError}
@@ -41,11 +43,12 @@ GivesOfFile folder now path result P = IfOk result (λ read. MayBe (folder.known
 abbrev pub FailsAt : {D F M T : Type 0} → Ghosts D F M → D → Path → Result T IoError → Type 0
 FailsAt folder now path result = FailsAs (folder.works now) (folder.known now (path_bytes path)) result
 
--- all bytes of the file at a path, and when it was changed last
+-- all bytes of the file at a path, no more than an index has, and when it was changed last
 pub record ReadsBytesAt {D F M : Type 0} (folder : Ghosts D F M) (now : D) (path : Path)
     (result : Result (Vec ℕ × FileTime) IoError) : Type 0 where
   pub held : GivesOfFile folder now path result (λ read file. read.0.items ≡ file.bytes)
   pub since : GivesOfFile folder now path result (λ read file. read.1 ≡ file.time)
+  pub bound : IfOk result (λ read. length read.0.items ≤ max_len)
   pub fault : FailsAt folder now path result
 
 -- ---- links
@@ -87,12 +90,14 @@ pub record Releases {D F M : Type 0} (folder : Ghosts D F M) (old new : D) (lock
   pub alone : folder.alone new ≡ folder.alone old
   pub works : folder.works new ≡ folder.works old
 
--- A lock with these bytes took the place of its file, or it was given up.
+-- A lock with these bytes took the place of its file, once they were on the disk where that is wanted; or it was given
+-- up.
 pub record Commits {D F M : Type 0} (folder : Ghosts D F M) (old new : D) (place : Place) (bytes : Option (List ℕ))
-    (time : FileTime) (result : Result (PathBuf Global) CommitError) : Type 0 where
+    (time : FileTime) (is_synced : Bool) (result : Result (PathBuf Global) CommitError) : Type 0 where
   pub asked : IfOk result (λ path. path_buf_bytes path ≡ asked_of place)
   pub committed : OnOk result (folder.alone old ≡ true
       → IsCommitted (folder.known old) (folder.known new) place bytes time)
+  pub synced : OnOk result (is_synced ≡ true → folder.durable new (target_of place))
   pub released : OnErr result (folder.alone old ≡ true
       → IsReleased (folder.works old) (folder.known old) (folder.known new) (lock_of place))
   pub fault : IfErr result (SaysOfCommit (folder.works old) place)

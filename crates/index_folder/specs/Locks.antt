@@ -45,12 +45,13 @@ pub data Follows (world : World) (path : List ℕ) : ℕ → List ℕ → Type 0
   on : (links : ℕ) (at text next : List ℕ) → Follows world path links at → MayLead (world at) text
       → next ≡ path_with_file_name at text → Follows world path (suc links) next
 
--- a path leads to another by so many links at most
+-- A path leads to another by so many links at most. Where nothing is, no link leads.
 pub record LeadsTo (world : World) (most : ℕ) (path target : List ℕ) : Type 0 where
   pub links : ℕ
   pub few : links ≤ most
   pub follows : Follows world path links target
   pub ends : MayEnd (world target)
+  pub nowhere : world target ≡ Absent → links ≡ 0
 
 -- so many links, at most five, lead from a path to one at which this is seen
 pub record Meets (world : World) (path : List ℕ) (standing : Standing) (links : ℕ) (at : List ℕ) : Type 0 where

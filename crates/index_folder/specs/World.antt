@@ -3,8 +3,9 @@ use Rattle.std.specs.Prelude.{◌≡◌, ◌≢◌, ◌⊎◌, ℕ, List, ◌++�
 use Rattle.std.specs.Option.{option_map}
 use Rattle.std.specs.IoError.{error_kind}
 use Rattle.std.specs.declared.io.Error.{Error}
-use Rattle.std.specs.declared.io.ErrorKind.TheVariants.{FileTooLarge, NotFound, OutOfMemory}
+use Rattle.std.specs.declared.io.ErrorKind.TheVariants.{NotFound}
 use Rattle.index_metadata.specs.declared.entry.stat.FileTime.{FileTime}
+use Rattle.index_folder.specs.Sizes.{IsSizeFault, IsTooLong}
 use Rattle.index_folder.specs.declared.folder.Standing.{Standing}
 use Rattle.index_folder.specs.declared.folder.Standing.TheVariants as standings
 use Rattle.index_folder.specs.declared.folder.Status.{Status}
@@ -78,10 +79,6 @@ MayBe (Leads to) P = Unit {0}
 MayBe Directory P = Unit {0}
 MayBe Special P = Unit {0}
 
--- a fault that comes of a place that works, too: want of memory, or a file that is longer than is read
-abbrev pub IsOwnFault : Error → Type 0
-IsOwnFault e = (error_kind e ≡ OutOfMemory) ⊎ (error_kind e ≡ FileTooLarge)
-
 -- no file may be there
 abbrev pub MayBeMissing : Known → Type 0
 MayBeMissing Unknown = Unit {0}
@@ -91,9 +88,10 @@ MayBeMissing (Leads to) = Unit {0}
 MayBeMissing Directory = ⊥
 MayBeMissing Special = ⊥
 
--- the same fault of a file at a path, or that none is there
+-- a fault of the file at a path, or that none is there
 abbrev pub IsFaultOf : Known → Error → Type 0
-IsFaultOf known e = IsOwnFault e ⊎ ((error_kind e ≡ NotFound) × MayBeMissing known)
+IsFaultOf known e = IsSizeFault (MayBe known (λ file. IsTooLong (length file.bytes))) e
+    ⊎ ((error_kind e ≡ NotFound) × MayBeMissing known)
 
 -- ---- changes
 
@@ -118,21 +116,22 @@ MayBeFree Special = ⊥
 abbrev pub MayBeTaken : Known → Type 0
 MayBeTaken k = k ≢ Absent
 
--- A file was made new at a path. Where its owner has locks kept, the file beside which it is the lock is known from
--- then on.
+-- A file was made new at a path, and is there, where that is known. Where its owner has locks kept, the file beside
+-- which it is the lock is known from then on.
 pub record Makes (guards : Bool) (old new : World) (path : List ℕ) : Type 0 where
   pub free : MayBeFree (old path)
+  pub there : MayBeTaken (new path)
   pub others : StaysBut (λ p. p ≡ path) old new
   pub guarded : guards ≡ true → (p : List ℕ) → p ++ codes ".lock" ≡ path → new p ≢ Unknown
 
 -- A file took the place of what was at a path, and nothing is where it was before. It has these bytes, where they are
--- known, and each time that it was given.
-pub record Moves (old new : World) (from to : List ℕ) (bytes : Option (List ℕ)) (Given : FileTime → Type 0)
+-- known, and each time at which it was changed last.
+pub record Moves (old new : World) (from to : List ℕ) (bytes : Option (List ℕ)) (Changed : FileTime → Type 0)
     : Type 0 where
   pub file : Stored
   pub here : new to ≡ Holds file
   pub are_bytes : IfSome bytes (λ bs. file.bytes ≡ bs)
-  pub is_time : (time : FileTime) → Given time → file.time ≡ time
+  pub is_time : (time : FileTime) → Changed time → file.time ≡ time
   pub moved : from ≢ to → new from ≡ Absent
   pub others : StaysBut (λ p. (p ≡ from) ⊎ (p ≡ to)) old new
 

@@ -66,11 +66,16 @@ pub trait Source: Drop {
 
 /// A file that was made new, and is open to be written.
 pub trait Made: io::Write + Drop {
-    // It was given this time of its last change, and nothing was written since.
-    ghost given: { Self → Time → Type 0 };
+    // It was changed last at this time, where that is known.
+    ghost changed: { Self → Time → Type 0 };
 
-    /// When it was changed last: when it was made, as long as nothing was written to it.
-    fn modified(&self) -> io::Result<FileTime>;
+    // All its bytes, and what is told of it, are on the disk.
+    ghost synced: { Self → Type 0 };
+
+    /// When it was changed last, as [`Status::modified`] tells it: when it was made, as long as nothing was written to
+    /// it, and it was given no time.
+    fn modified(&self) -> FileTime
+        ensures { changed self.now result };
 }
 
 /// A place where files are by their paths.
@@ -90,6 +95,9 @@ pub trait Folder {
 
     // No call of it fails but for memory, or for what is at its paths.
     ghost works: { Self → Bool };
+
+    // All bytes of the file that was put at a path were on the disk before.
+    ghost durable: { Self → List ℕ → Type 0 };
 
     /// What is at a path, where no link is followed.
     fn look(&self, path: Path<'_>) -> io::Result<Standing>
@@ -116,24 +124,27 @@ pub trait Folder {
 
     /// Gives a file that was made the permissions of the one at a path, where there is one.
     fn copy_permissions(&self, made: &mut Self::Made, path: Path<'_>) -> io::Result<()>
-        ensures { KeepsMade Self.Made.contents Self.Made.given made.old made.new (works self.now)
+        ensures { KeepsMade Self.Made.contents Self.Made.changed made.old made.new (works self.now)
             result };
 
     /// Gives a file that was made the time of its last change.
     fn set_time(&self, made: &mut Self::Made, time: FileTime) -> io::Result<()>
-        ensures { GivesTime Self.Made.contents Self.Made.given made.old made.new (works self.now)
+        ensures { GivesTime Self.Made.contents Self.Made.changed made.old made.new (works self.now)
             time result };
 
     /// Has all bytes of a file that was made, and what is told of it, brought to the disk.
     fn sync(&self, made: &mut Self::Made) -> io::Result<()>
-        ensures { KeepsMade Self.Made.contents Self.Made.given made.old made.new (works self.now)
-            result };
+        ensures kept { KeepsMade Self.Made.contents Self.Made.changed made.old made.new
+            (works self.now) result }
+        ensures synced { OnOk result (Self.Made.synced made.new) };
 
     /// Closes a file that was made at one path, and moves it to another, in place of what is there.
     fn put(&mut self, made: Self::Made, from: Path<'_>, to: Path<'_>) -> io::Result<()>
         ensures moved { OnOk result (alone self.old ≡ true
             → Moves (known self.old) (known self.new) (path_bytes from.entry)
-            (path_bytes to.entry) (Self.Made.contents made) (Self.Made.given made)) }
+            (path_bytes to.entry) (Self.Made.contents made) (Self.Made.changed made)) }
+        ensures durable { OnOk result
+            (Self.Made.synced made → durable self.new (path_bytes to.entry)) }
         ensures unmoved { OnErr result (known self.new ≡ known self.old) }
         ensures fault { works self.old ≡ true
             → IfErr result (λ e. error_kind e ≡ ErrorKind.OutOfMemory) }

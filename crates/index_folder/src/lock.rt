@@ -1,7 +1,8 @@
 //! The lock under which a file is replaced: a file beside it, made new, which takes its place or is removed.
 
-ghost use Rattle.std.specs.Prelude.{◌≡◌, ◌++◌, codes, true, IfOk, IsOk, OnOk};
+ghost use Rattle.std.specs.Prelude.{◌≡◌, ◌++◌, codes, false, true, IfOk, IsOk, OnOk};
 ghost use Rattle.std.specs.Path.{path_buf_bytes, path_bytes};
+ghost use Rattle.index_metadata.specs.declared.entry.stat.FileTime.{FileTime as Time};
 ghost use Rattle.index_folder.specs.Folders.{Acquires, Commits, Releases};
 ghost use Rattle.index_folder.specs.Locks.{SaysOfFault, asked_of, lock_of, target_of};
 ghost use Rattle.index_folder.specs.Times.{is_told};
@@ -137,7 +138,10 @@ impl Place {
         is_synced: bool,
     ) -> io::Result<()>
         ensures contents { D.Made.contents file.new ≡ D.Made.contents file.old }
-        ensures given { OnOk result (is_told time ≡ true → D.Made.given file.new time) }
+        ensures given { OnOk result (is_told time ≡ true → D.Made.changed file.new time) }
+        ensures untold { is_told time ≡ false
+            → (t : Time) → D.Made.changed file.new t → D.Made.changed file.old t }
+        ensures synced { OnOk result (is_synced ≡ true → D.Made.synced file.new) }
         ensures succeeds { D.works folder.now ≡ true → IsOk result }
     {
         folder.copy_permissions(file, self.target.as_path())?;
@@ -162,7 +166,8 @@ impl Place {
         time: FileTime,
         is_synced: bool,
     ) -> Result<PathBuf, CommitError>
-        ensures { Commits D.Folder folder.old folder.new self (D.Made.contents file) time result }
+        ensures { Commits D.Folder folder.old folder.new self (D.Made.contents file) time is_synced
+            result }
     {
         if let Err(error) = self.finish(folder, &mut file, time, is_synced) {
             drop(file);

@@ -73,10 +73,15 @@ impl<F: OpenFile + Write + Drop> Write for SystemMade<F> {
 }
 
 impl<F: OpenFile + Write + Drop> Made for SystemMade<F> {
-    ghost given = { λ _ _. ⊤ };
+    ghost changed = { λ _ _. ⊤ };
 
-    fn modified(&self) -> io::Result<FileTime> {
-        Ok(modified_of(&self.inner.metadata()?))
+    ghost synced = { λ _. ⊤ };
+
+    fn modified(&self) -> FileTime {
+        match self.inner.metadata() {
+            Ok(metadata) => modified_of(&metadata),
+            Err(_) => FileTime::EPOCH,
+        }
     }
 }
 
@@ -92,6 +97,8 @@ impl<R: Files> Folder for System<'_, R> {
     ghost guards = { λ _. false };
 
     ghost works = { λ _. false };
+
+    ghost durable = { λ _ _. ⊤ };
 
     fn look(&self, path: Path<'_>) -> io::Result<Standing> {
         match fs::symlink_metadata(self.rt, path) {

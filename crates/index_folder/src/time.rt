@@ -1,6 +1,6 @@
 //! The time at which a file was changed last, as the system gives it and as it takes it.
 
-ghost use Rattle.std.specs.Prelude.{◌≡◌, ◌*◌, ◌+◌, pos, IfSome, None, ℕ};
+ghost use Rattle.std.specs.Prelude.{◌≡◌, ◌≤◌, ◌*◌, ◌+◌, ◌^◌, pos, IfSome, None, ℕ};
 ghost use Rattle.std.specs.Time.{system_time_nanos};
 ghost use Rattle.index_metadata.specs.Stat.{nanoseconds_of, seconds_of, whole};
 ghost use Rattle.index_folder.specs.Times.{IsTimeOf, is_told};
@@ -11,7 +11,8 @@ use std::time::{Duration, SystemTime};
 
 /// A time of the system's in its two parts; None where its seconds have more than 63 bits.
 fn file_time(time: SystemTime) -> Option<FileTime>
-    ensures { IfSome result (λ parts. IsTimeOf parts time) }
+    ensures kept { IfSome result (λ parts. IsTimeOf parts time) }
+    ensures none { result ≡ None → 2 ^ 63 * 1_000_000_000 ≤ system_time_nanos time }
 {
     let since = time.duration_since(SystemTime::UNIX_EPOCH).ok()?;
     FileTime::new(i64::try_from(since.as_secs()).ok()?, since.subsec_nanos())

@@ -3,7 +3,8 @@
 ghost use Rattle.std.specs.Prelude.{◌≡◌, ◌≤◌, [], IfErr, IfOk};
 ghost use Rattle.std.specs.IoError.{error_kind};
 ghost use Rattle.index_folder.specs.Folders.{ReadsBytesAt};
-ghost use Rattle.index_folder.specs.Sources.{IsRoomFault, ReadsToEnd};
+ghost use Rattle.index_folder.specs.Sizes.{IsRoomFault, max_len};
+ghost use Rattle.index_folder.specs.Sources.{ReadsToEnd};
 
 use crate::folder::{Folder, Source, Status};
 use crate::pieces::fill;
@@ -27,7 +28,7 @@ pub fn too_long() -> io::Error
 /// Room for as many bytes as a file says that it has.
 pub fn room_for(alloc: Global, status: Status) -> io::Result<Vec<u8>>
     ensures room { IfOk result (λ room. room.items ≡ []) }
-    ensures bound { IfOk result (λ _. status.len ≤ 4294967328) }
+    ensures bound { IfOk result (λ _. status.len ≤ max_len) }
     ensures fault { IfErr result (IsRoomFault status.len) }
 {
     let len = status.len;

@@ -1,5 +1,5 @@
 -- What a shelf and its files have, and whether their steps may fail (the library's own).
-use Rattle.std.specs.Prelude.{ℕ, List, Bool, true, false, Option, Some, None, String}
+use Rattle.std.specs.Prelude.{◌≡◌, ℕ, ◌==◌, List, Bool, true, false, Option, Some, None, String, IsSomeAnd, nat_le}
 use Rattle.std.specs.BTreeMap.{BTreeMap, get_by_text}
 use Rattle.std.specs.Io.Cursor.{cursor_inner, cursor_remaining}
 use Rattle.index_folder.specs.World.{Absent, Holds, Known, Stored, World}
@@ -10,6 +10,12 @@ use Rattle.index_shelf.specs.declared.shelf.Kept.{Kept}
 use Rattle.index_shelf.specs.declared.shelf.Shelf.{Shelf}
 use Rattle.index_shelf.specs.declared.steps.Fault.{Fault}
 use Rattle.index_shelf.specs.declared.steps.Fault.TheVariants as faults
+
+-- the step of this number, counted from 1, fails
+abbrev pub fails_at : Fault → ℕ → Bool
+fails_at faults.Never step = false
+fails_at (faults.At at) step = step == at
+fails_at (faults.Since first) step = nat_le first step
 
 -- no step fails
 abbrev pub works_with : Fault → Bool
@@ -24,12 +30,20 @@ abbrev pub known_as : Option Kept → Known
 known_as None = Absent
 known_as (Some kept) = Holds (record { bytes = kept.bytes.items; time = kept.time })
 
--- what is at each path
-abbrev pub world_in : {A : Type 0} → BTreeMap (String A) Kept → World
-world_in files path = known_as (get_by_text files path)
+-- what is kept at each path
+abbrev pub kept_in : {A : Type 0} → BTreeMap (String A) Kept → List ℕ → Option Kept
+kept_in files path = get_by_text files path
 
+abbrev pub kept_at : Shelf → List ℕ → Option Kept
+kept_at shelf = kept_in shelf.files
+
+-- what is at each path
 abbrev pub world_of : Shelf → World
-world_of shelf = world_in shelf.files
+world_of shelf path = known_as (kept_at shelf path)
+
+-- its bytes were on the disk before it came to its path
+abbrev pub IsDurable : Option Kept → Type 0
+IsDurable kept = IsSomeAnd kept (λ k. k.is_durable ≡ true)
 
 abbrev pub fault_of : Shelf → Fault
 fault_of shelf = shelf.steps.fault

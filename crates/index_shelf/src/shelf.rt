@@ -4,7 +4,7 @@ ghost use Rattle.std.specs.Prelude.{◌≡◌, ◌≢◌, List, ℕ, OnErr, OnOk
 ghost use Rattle.std.specs.Option.{option_copied};
 ghost use Rattle.std.specs.Path.{path_bytes};
 ghost use Rattle.index_folder.specs.World.{Absent};
-ghost use Rattle.index_shelf.specs.Shelf.{fault_of, known_as, works_with, world_of};
+ghost use Rattle.index_shelf.specs.Shelf.{IsDurable, fault_of, kept_at, works_with, world_of};
 
 use crate::file::ShelfFile;
 use crate::made::ShelfMade;
@@ -24,6 +24,8 @@ pub struct Kept {
     pub bytes: Vec<u8>,
     /// When it was changed last.
     pub time: FileTime,
+    /// Whether it was synced before it was put here, and not changed in between.
+    pub is_durable: bool,
 }
 
 /// Regular files by their paths, and no folders or links: a path is any text, and leads to itself.
@@ -58,9 +60,9 @@ impl<'a> Shelf<'a> {
     /// all is as it was.
     pub fn keep(&mut self, path: Path<'_>, kept: Kept) -> Result<(), AllocError>
         ensures here { OnOk result
-            (world_of self.new (path_bytes path.entry) ≡ known_as (Some kept)) }
+            (kept_at self.new (path_bytes path.entry) ≡ Some kept) }
         ensures others { OnOk result ((p : List ℕ) → p ≢ path_bytes path.entry
-            → world_of self.new p ≡ world_of self.old p) }
+            → kept_at self.new p ≡ kept_at self.old p) }
         ensures kept { OnErr result (world_of self.new ≡ world_of self.old) }
         ensures fault { fault_of self.new ≡ fault_of self.old }
     {
@@ -71,8 +73,7 @@ impl<'a> Shelf<'a> {
 
     /// The file at a path.
     pub fn file(&self, path: Path<'_>) -> Option<&Kept>
-        ensures { known_as (option_copied result)
-            ≡ world_of self.entry.now (path_bytes path.entry) }
+        ensures { option_copied result ≡ kept_at self.entry.now (path_bytes path.entry) }
     {
         self.files.get(path.as_str())
     }
@@ -90,6 +91,8 @@ impl<'a> Folder for Shelf<'a> {
     ghost guards = { λ _. true };
 
     ghost works = { λ shelf. works_with (fault_of shelf) };
+
+    ghost durable = { λ shelf path. IsDurable (kept_at shelf path) };
 
     fn look(&self, path: Path<'_>) -> io::Result<Standing> {
         self.steps.take()?;
@@ -124,34 +127,51 @@ impl<'a> Folder for Shelf<'a> {
         let kept = Kept {
             bytes: Vec::new(self.alloc),
             time: self.now,
+            is_durable: false,
         };
         self.keep(path, kept)?;
         Ok(ShelfMade {
             bytes: Vec::new(self.alloc),
             time: self.now,
             now: self.now,
+            is_synced: false,
             steps: self.steps,
         })
     }
 
-    fn copy_permissions(&self, _made: &mut ShelfMade<'a>, _path: Path<'_>) -> io::Result<()> {
-        self.steps.take()
+    fn copy_permissions(&self, made: &mut ShelfMade<'a>, _path: Path<'_>) -> io::Result<()> {
+        self.steps.take()?;
+        made.is_synced = false;
+        Ok(())
     }
 
     fn set_time(&self, made: &mut ShelfMade<'a>, time: FileTime) -> io::Result<()> {
         self.steps.take()?;
         made.time = time;
+        made.is_synced = false;
         Ok(())
     }
 
-    fn sync(&self, _made: &mut ShelfMade<'a>) -> io::Result<()> {
-        self.steps.take()
+    fn sync(&self, made: &mut ShelfMade<'a>) -> io::Result<()> {
+        self.steps.take()?;
+        made.is_synced = true;
+        Ok(())
     }
 
     fn put(&mut self, made: ShelfMade<'a>, from: Path<'_>, to: Path<'_>) -> io::Result<()> {
         self.steps.take()?;
-        let ShelfMade { bytes, time, .. } = made;
-        self.keep(to, Kept { bytes, time })?;
+        let ShelfMade {
+            bytes,
+            time,
+            is_synced,
+            ..
+        } = made;
+        let kept = Kept {
+            bytes,
+            time,
+            is_durable: is_synced,
+        };
+        self.keep(to, kept)?;
         if from.as_str() != to.as_str() {
             self.files.remove(from.as_str());
         }

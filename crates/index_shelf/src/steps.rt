@@ -2,7 +2,7 @@
 
 ghost use Rattle.std.specs.Prelude.{◌≡◌, true, IfErr, IsOk};
 ghost use Rattle.std.specs.IoError.{error_kind};
-ghost use Rattle.index_shelf.specs.Shelf.{works_with};
+ghost use Rattle.index_shelf.specs.Shelf.{fails_at, works_with};
 
 use std::cell::Cell;
 use std::io;
@@ -17,6 +17,19 @@ pub enum Fault {
     At(u64),
     /// This one, and all behind it.
     Since(u64),
+}
+
+impl Fault {
+    /// Whether the step of this number, counted from 1, fails.
+    pub fn fails(self, step: u64) -> bool
+        ensures { result ≡ fails_at self step }
+    {
+        match self {
+            Fault::Never => false,
+            Fault::At(at) => step == at,
+            Fault::Since(first) => step >= first,
+        }
+    }
 }
 
 /// The steps of a shelf and of its files, in one count.
@@ -36,12 +49,7 @@ impl Steps<'_> {
     {
         let step = self.taken.get().saturating_add(1);
         self.taken.set(step);
-        let fails = match self.fault {
-            Fault::Never => false,
-            Fault::At(at) => step == at,
-            Fault::Since(first) => step >= first,
-        };
-        if fails {
+        if self.fault.fails(step) {
             return Err(io::Error::from(ErrorKind::TimedOut));
         }
         Ok(())

@@ -150,6 +150,8 @@ impl<'a, R: Files> Folder for Terminal<'a, R> {
 
     ghost works = { λ _. false };
 
+    ghost durable = { λ _ _. ⊤ };
+
     fn look(&self, path: Path<'_>) -> io::Result<Standing> {
         self.system.look(path)
     }

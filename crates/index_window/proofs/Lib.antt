@@ -1,4 +1,5 @@
 mod Abridging
+mod Counts
 mod Endings
 mod Fronts
 mod Hashed

@@ -1,10 +1,11 @@
 -- A file that is read to its end, not in windows: all its bytes, or its first fault, where its first bytes are no
 -- header (gitformat-index, "A 12-byte header"; the library's own).
-use Rattle.std.specs.Prelude.{◌≡◌, ◌≤◌, ℕ, ◌-◌, Bool, false, true, List, [], ◌++◌, drop, length, Err, Option, Result}
-use Rattle.std.specs.Prelude.{IfErr, IfOk, IfSome, slice_range}
+use Rattle.std.specs.Prelude.{◌≡◌, ◌≤◌, ℕ, ◌+◌, ◌-◌, Bool, false, true, List, [], ◌++◌, drop, length, Err, Option, Result}
+use Rattle.std.specs.Prelude.{IfErr, IfOk, IfSome, OnOk, slice_range}
 use Rattle.std.specs.declared.io.Error.{Error as IoError}
 use Rattle.index_entries.specs.Header.{header_of}
-use Rattle.index_folder.specs.World.{IsOwnFault, Stored}
+use Rattle.index_folder.specs.Sizes.{IsSizeFault, IsTooLong, max_len}
+use Rattle.index_folder.specs.World.{Stored}
 use Rattle.index_folder.specs.declared.folder.Source.{Ghosts}
 use Rattle.index_format.specs.HeaderErrors.{header_fault}
 use Rattle.index_format.specs.declared.error.Error.{Error}
@@ -53,10 +54,15 @@ pub record AreHashed (kind : Kind) (is_held : Bool) (left : Option (List ℕ)) (
   pub held : is_held ≡ true → gone ≡ []
   pub let_go : is_held ≡ false → id_len kind ≤ length before → length after ≡ id_len kind
 
+-- want of memory, or that so many bytes at hand and all that were left of a file are too many
+abbrev pub IsFaultBehind : ℕ → Option (List ℕ) → IoError → Type 0
+IsFaultBehind before left e = IsSizeFault (IfSome left (λ l. IsTooLong (before + length l))) e
+
 pub record HashesToEnd {S : Type 0} (source : Ghosts S) (old : S) (kind : Kind) (is_held : Bool) (before after : List ℕ)
     (result : Result ObjectId IoError) : Type 0 where
   pub hashed : IfOk result (AreHashed kind is_held (source.remaining old) before after)
-  pub fault : source.works old ≡ true → IfErr result IsOwnFault
+  pub bound : OnOk result (is_held ≡ true → length after ≤ max_len)
+  pub fault : source.works old ≡ true → IfErr result (IsFaultBehind (length before) (source.remaining old))
 
 -- ---- bytes that are no header
 
@@ -94,3 +100,8 @@ abbrev pub IsReadWhole : Option Stored → Bool → Kind → WholeFile → Type 
 IsReadWhole stored skip kind (whole.Held bytes digest) =
     IsAllOf stored bytes.items × IfSome digest (λ id. id ≡ digest_id kind bytes.items)
 IsReadWhole stored skip kind (whole.Refused e) = IsRefusedFile stored skip kind e
+
+-- no more bytes are held than an index has
+abbrev pub HoldsFew : WholeFile → Type 0
+HoldsFew (whole.Held bytes digest) = length bytes.items ≤ max_len
+HoldsFew (whole.Refused e) = Unit {0}

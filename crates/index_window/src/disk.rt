@@ -2,13 +2,15 @@
 
 ghost use Rattle.std.specs.Prelude.{◌≡◌, ◌≤◌, ◌+◌, ◌-◌, ◌++◌, [], false, length, true, vec_len, IfErr};
 ghost use Rattle.std.specs.Prelude.{IfOk, IfSome, OnOk};
+ghost use Rattle.index_folder.specs.Sizes.{IsOwnFault, max_len};
 ghost use Rattle.index_folder.specs.Sources.{ReturnsToStart};
-ghost use Rattle.index_folder.specs.World.{IsOwnFault, whole_of};
+ghost use Rattle.index_folder.specs.World.{whole_of};
 ghost use Rattle.index_format.specs.declared.error.Error.TheVariants.{Header};
 ghost use Rattle.index_parts.specs.Id.{id_len};
 ghost use Rattle.index_window.specs.Intact.{digest_id};
 ghost use Rattle.index_window.specs.ReadWhole.{EndsInNull, HashesFront, HashesToEnd, IsComparedFirst, IsReadWhole};
-ghost use Rattle.index_window.specs.ReadWhole.{IsRefusalBehind, IsUnchecked, LacksHeader};
+ghost use Rattle.index_window.specs.ReadWhole.{HoldsFew, IsFaultBehind, IsRefusalBehind, IsUnchecked};
+ghost use Rattle.index_window.specs.ReadWhole.{LacksHeader};
 
 use crate::plan::WINDOW_LEN;
 use index_entries::sizes::HEADER_LEN;
@@ -113,13 +115,13 @@ fn read_hashed<S: Source>(
     let mut len = bytes.len() as u64;
     'pieces: loop {
         let count = append_piece(file, bytes)?;
-        hashed = hash_front(&mut hasher, kind, is_held, bytes, hashed);
-        if count == 0 {
-            return Ok(hasher.finalize());
-        }
         len += count as u64;
         if len > MAX_LEN {
             return Err(too_long());
+        }
+        hashed = hash_front(&mut hasher, kind, is_held, bytes, hashed);
+        if count == 0 {
+            return Ok(hasher.finalize());
         }
     }
 }
@@ -135,7 +137,9 @@ fn read_whole<S: Source>(
         (λ digest. IfSome digest (λ id. id ≡ digest_id kind bytes.new.items)) }
     ensures whole { OnOk result
         (IfSome (S.remaining file.old) (λ left. bytes.new.items ≡ bytes.old.items ++ left)) }
-    ensures fault { S.works file.old ≡ true → IfErr result IsOwnFault }
+    ensures bound { OnOk result (length bytes.new.items ≤ max_len) }
+    ensures fault { S.works file.old ≡ true
+        → IfErr result (IsFaultBehind (vec_len bytes.old) (S.remaining file.old)) }
 {
     if is_hashed {
         return Ok(Some(read_hashed(file, kind, true, bytes)?));
@@ -189,7 +193,8 @@ fn refused<S: Source>(
     ensures unread { IfOk result (λ e. is_compared ≡ false → e ≡ Header fault) }
     ensures read { IfOk result (λ e. is_compared ≡ true
         → IsRefusalBehind kind head.old.items (S.remaining file.old) fault e) }
-    ensures fault { S.works file.old ≡ true → IfErr result IsOwnFault }
+    ensures fault { S.works file.old ≡ true
+        → IfErr result (IsFaultBehind (vec_len head.old) (S.remaining file.old)) }
 {
     if !is_compared {
         return Ok(Error::Header(fault));
@@ -210,7 +215,8 @@ pub fn bytes_of<S: Source>(
 ) -> io::Result<WholeFile>
     requires { S.remaining file ≡ whole_of (S.stored file) }
     ensures whole { IfOk result (IsReadWhole (S.stored file) skip_hash kind) }
-    ensures fault { S.works file ≡ true → IfErr result IsOwnFault }
+    ensures bound { IfOk result HoldsFew }
+    ensures fault { S.works file ≡ true → IfErr result (IsOwnFault (whole_of (S.stored file))) }
 {
     let len = file.status()?.len;
     if len > MAX_LEN {

@@ -1,8 +1,9 @@
 //! A large index file on the disk.
 
-ghost use Rattle.std.specs.Prelude.{◌≡◌, true, IfErr, IfNone, IfOk};
+ghost use Rattle.std.specs.Prelude.{◌≡◌, ◌≤◌, length, true, IfErr, IfNone, IfOk, IfSome};
+ghost use Rattle.index_folder.specs.Sizes.{IsOwnFault, max_len};
 ghost use Rattle.index_folder.specs.Sources.{KeepsFile, ReturnsToStart};
-ghost use Rattle.index_folder.specs.World.{IsOwnFault, whole_of};
+ghost use Rattle.index_folder.specs.World.{whole_of};
 ghost use Rattle.index_window.specs.Answers.{IsAllOf, IsWindowed};
 ghost use Rattle.index_window.specs.Windowed.{IfGiven};
 
@@ -60,7 +61,10 @@ pub fn in_windows<S: Source>(
     ensures back { IfOk result
         (λ o. IfNone o (S.remaining file.new ≡ whole_of (S.stored file.new))) }
     ensures left { KeepsFile S.Source file.old file.new }
-    ensures fault { S.works file.old ≡ true → IfErr result IsOwnFault }
+    ensures bound { IfOk result
+        (λ _. IfSome (S.stored file.old) (λ whole. length whole.bytes ≤ max_len)) }
+    ensures fault { S.works file.old ≡ true
+        → IfErr result (IsOwnFault (whole_of (S.stored file.old))) }
 {
     let status = file.status()?;
     let len = status.len;

@@ -24,7 +24,6 @@ use index_folder::lock;
 pub use index_folder::lock::{Error as Fault, Lock, Place, acquire};
 use index_format::decode;
 use index_format::write::Options;
-use index_metadata::entry::FileTime;
 use index_parts::hash::Kind;
 use index_window::ReadOptions;
 use std::alloc::{AllocError, Global};
@@ -56,7 +55,8 @@ impl File {
         or_default: bool,
     ) -> Result<Locked<D::Made>, Error>
         ensures read { IfOk result
-            (IsReadBehind D.Folder folder.new path skip_hash object_hash options or_default) }
+            (IsReadBehind D.Folder D.Made.changed folder.new path skip_hash object_hash options
+            or_default) }
         ensures whole { IfOk result (IsLockedWhole (path_buf_bytes path) object_hash) }
         ensures lock { LocksFile D.Folder D.Made.contents folder.old folder.new path result }
         ensures fault { IfErr result
@@ -70,7 +70,7 @@ impl File {
         let reading = ReadOptions {
             object_hash,
             skip_hash,
-            timestamp: made.modified().unwrap_or(FileTime::EPOCH),
+            timestamp: made.modified(),
             options,
         };
         match read_from(
@@ -115,7 +115,7 @@ impl File {
         is_synced: bool,
     ) -> Result<(), write::Error>
         ensures { SavesFile D.Folder D.Made.contents folder.old folder.new self.old self.new lock
-            options result }
+            options is_synced result }
     {
         let (path, version, id) = committed(self, folder, alloc, lock, options, is_synced)?;
         self.path = path;
@@ -144,7 +144,8 @@ impl<M: Made> Locked<M> {
         options: Options,
         is_synced: bool,
     ) -> Result<File, write::Error>
-        ensures { SavesLocked D.Folder M.contents folder.old folder.new self options result }
+        ensures { SavesLocked D.Folder M.contents folder.old folder.new self options is_synced
+            result }
     {
         let Locked { mut file, lock } = self;
         match file.commit(folder, alloc, lock, options, is_synced) {

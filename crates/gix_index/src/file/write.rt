@@ -46,7 +46,8 @@ pub(super) fn committed<D: Folder>(
     options: Options,
     is_synced: bool,
 ) -> Result<(PathBuf, Version, ObjectId), Error>
-    ensures { Saves D.Folder D.Made.contents folder.old folder.new index.now lock options result }
+    ensures { Saves D.Folder D.Made.contents folder.old folder.new index.now lock options is_synced
+        result }
 {
     let Lock { place, file } = lock;
     let Filled { version, id, file } = match index.fill(alloc, file, options) {

@@ -1,4 +1,5 @@
-use Rattle.std.proofs.Common.{◌≡◌, ◌≤◌, ◌-◌, ◌^◌}
+use Rattle.std.proofs.Common.{◌≡◌, ◌≤◌, ◌-◌, ◌^◌, true, length}
+use Rattle.index_window.proofs.Counts.{Counts}
 use Rattle.index_window.proofs.Hashed.{IsHashedOn}
 use Rattle.index_window.proofs.disk.read_hashed.Given as goal
 
@@ -8,6 +9,8 @@ invariant-pieces g l =
       so_far : IsHashedOn l.kind l.is_held (g.S.Source.remaining l.fn.file) (g.S.Source.remaining l.file) l.hasher
           l.fn.bytes.items l.bytes.items l.hashed;
       len : l.len ≤ 2 ^ 63;
+      counted : Counts (g.S.Source.remaining l.fn.file) (g.S.Source.remaining l.file) (length l.fn.bytes.items) l.len;
+      held : l.is_held ≡ true → length l.bytes.items ≡ l.len;
       works : g.S.Source.works l.file ≡ g.S.Source.works l.fn.file;
     }
 

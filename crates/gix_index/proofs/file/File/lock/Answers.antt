@@ -6,8 +6,9 @@ use Rattle.gix_index.proofs.file.File.lock.Goals as goal
 
 pub returns-in-Ok-read_from-clause-read : goal.returns-in-Ok-read_from-clause-read
 returns-in-Ok-read_from-clause-read g c =
-    locked_read c.args.skip_hash c.args.object_hash c.args.options _ (g.D.Folder.known c.acquire.new.folder)
-    (path_bytes c.target.result) _ (path_buf_bytes c.args.path) c.in-Ok-read_from.file _ c.target.ensures
+    locked_read c.args.skip_hash c.args.object_hash c.args.options _ _ (g.D.Folder.known c.acquire.new.folder)
+    (path_bytes c.target.result) _ (path_buf_bytes c.args.path) c.in-Ok-read_from.file _ c.modified.ensures
+    c.target.ensures
     c.in-Ok-read_from.ensures.read
 
 pub returns-in-Err-read_from-clause-fault : goal.returns-in-Err-read_from-clause-fault

@@ -17,6 +17,7 @@ returns-in-Err g c =
       id = tt;
       writable = tt;
       put = tt;
+      synced = tt;
       released = search rules;
       fault = subst (λ (l : List ℕ). SaysOfReplacing None works l to v c.args.options c.put_fault.result)
           c.release.ensures.path (c.put_fault.ensures None works to v c.args.options c.in-Err.ensures.fault);
@@ -31,6 +32,7 @@ returns-in-Err-Lock g c = record {
   id = tt;
   writable = tt;
   put = tt;
+  synced = tt;
   released = search rules;
   fault = c.fault_of.ensures None (g.D.Folder.works c.args.folder.now) (lock_of c.args.lock.place)
       (target_of c.args.lock.place) _ _ (search rules);
@@ -45,6 +47,7 @@ returns-in-Err-Rename g c = record {
   id = tt;
   writable = tt;
   put = tt;
+  synced = tt;
   released = search rules;
   fault = c.fault_of-in-Err-Rename.ensures None (g.D.Folder.works c.args.folder.now) (lock_of c.args.lock.place)
       (target_of c.args.lock.place) _ _ (search rules);
@@ -63,6 +66,7 @@ returns-in-Ok-commit g c = record {
       (contents (state_of c.args.index.now)) c.args.options (g.D.Made.Write.contents c.args.lock.file)
       (g.D.Made.Write.contents c.in-Ok.filled.file) c.timestamp.result c.timestamp.ensures empty
       c.in-Ok.ensures.bytes (c.in-Ok-commit.ensures.committed alone);
+  synced = search rules;
   released = tt;
   fault = tt;
   alone = search rules;

@@ -1,4 +1,4 @@
-use Rattle.std.proofs.Common.{rules}
+use Rattle.std.proofs.Common.{rules, subst}
 use Rattle.index_folder.proofs.Moved.{committed_so}
 use Rattle.index_folder.proofs.locked.Place.commit.Goals as goal
 
@@ -8,6 +8,8 @@ returns-in-Ok g c = record {
   committed = λ alone. committed_so _ _ c.args.self _ _ _ _ _ c.args.time c.args.self.beside
       (c.in-Ok.ensures.moved alone) c.as_path.ensures c.as_path-2.ensures c.finish.ensures.contents
       c.in_default.ensures.given;
+  synced = λ is. subst (g.D.Folder.durable c.put.new.self) c.as_path-2.ensures
+      (c.in-Ok.ensures.durable (c.in_default.ensures.synced is));
   released = tt;
   fault = tt;
   alone = search rules;

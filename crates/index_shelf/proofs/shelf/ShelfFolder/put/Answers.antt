@@ -1,22 +1,34 @@
 use Rattle.std.proofs.Common.{rules}
 use Rattle.std.specs.Path.{path_bytes}
-use Rattle.index_shelf.proofs.Worlds.{moved, stayed, taken_out, told_apart, told_same}
-use Rattle.index_shelf.specs.Shelf.{world_in}
+use Rattle.index_shelf.proofs.Worlds.{durable_there, moved, stayed, stays_there, taken_out, told_apart, told_same}
+use Rattle.index_shelf.specs.Shelf.{kept_in}
 use Rattle.index_shelf.proofs.shelf.ShelfFolder.put.Goals as goal
 
 pub returns-then-ne-clause-moved : goal.returns-then-ne-clause-moved
 returns-then-ne-clause-moved c = λ _.
-    moved (world_in c.args.self.now.files) (world_in c.keep.new.self.files) (world_in c.remove.new.self)
-    (path_bytes c.args.from) (path_bytes c.args.to)
-    (record { bytes = c.args.made.bytes.items; time = c.args.made.time })
+    moved (kept_in c.args.self.now.files) (kept_in c.keep.new.self.files) (kept_in c.remove.new.self)
+    (path_bytes c.args.from) (path_bytes c.args.to) _ c.in_ok-keep.ensures.here c.in_ok-keep.ensures.others
     (told_apart c.as_str.result.now c.as_str-2.result.now (path_bytes c.args.from) (path_bytes c.args.to)
-    c.as_str.ensures c.as_str-2.ensures (search rules)) c.in_ok-keep.ensures.here c.in_ok-keep.ensures.others
+    c.as_str.ensures c.as_str-2.ensures (search rules))
     (taken_out c.as_str-then-ne.result.now (path_bytes c.args.from) c.keep.new.self.files c.remove.new.self
     c.as_str-then-ne.ensures c.remove.ensures.updates)
 
+pub returns-then-ne-clause-durable : goal.returns-then-ne-clause-durable
+returns-then-ne-clause-durable c = λ synced.
+    durable_there _ _
+    (stays_there (kept_in c.args.self.now.files) (kept_in c.keep.new.self.files) (kept_in c.remove.new.self)
+    (path_bytes c.args.from) (path_bytes c.args.to) _ c.in_ok-keep.ensures.here c.in_ok-keep.ensures.others
+    (told_apart c.as_str.result.now c.as_str-2.result.now (path_bytes c.args.from) (path_bytes c.args.to)
+    c.as_str.ensures c.as_str-2.ensures (search rules))
+    (taken_out c.as_str-then-ne.result.now (path_bytes c.args.from) c.keep.new.self.files c.remove.new.self
+    c.as_str-then-ne.ensures c.remove.ensures.updates)) synced
+
 pub returns-else-ne-clause-moved : goal.returns-else-ne-clause-moved
 returns-else-ne-clause-moved c = λ _.
-    stayed (world_in c.args.self.now.files) (world_in c.keep.new.self.files) (path_bytes c.args.from)
-    (path_bytes c.args.to) (record { bytes = c.args.made.bytes.items; time = c.args.made.time })
+    stayed (kept_in c.args.self.now.files) (kept_in c.keep.new.self.files) (kept_in c.keep.new.self.files)
+    (path_bytes c.args.from) (path_bytes c.args.to) _ c.in_ok-keep.ensures.here c.in_ok-keep.ensures.others
     (told_same c.as_str.result.now c.as_str-2.result.now (path_bytes c.args.from) (path_bytes c.args.to)
-    c.as_str.ensures c.as_str-2.ensures (search rules)) c.in_ok-keep.ensures.here c.in_ok-keep.ensures.others
+    c.as_str.ensures c.as_str-2.ensures (search rules))
+
+pub returns-else-ne-clause-durable : goal.returns-else-ne-clause-durable
+returns-else-ne-clause-durable c = λ synced. durable_there _ _ c.in_ok-keep.ensures.here synced

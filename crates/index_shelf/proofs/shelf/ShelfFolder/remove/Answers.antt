@@ -1,12 +1,12 @@
 use Rattle.std.proofs.Common.{rules}
 use Rattle.std.specs.Path.{path_bytes}
 use Rattle.index_shelf.proofs.Worlds.{removed, taken_out}
-use Rattle.index_shelf.specs.Shelf.{world_in}
+use Rattle.index_shelf.specs.Shelf.{kept_in}
 use Rattle.index_shelf.proofs.shelf.ShelfFolder.remove.Goals as goal
 
 pub returns : goal.returns
 returns c = record {
-  removed = λ _. removed (world_in c.args.self.now.files) (world_in c.remove.new.self) (path_bytes c.args.path)
+  removed = λ _. removed (kept_in c.args.self.now.files) (kept_in c.remove.new.self) (path_bytes c.args.path)
       (taken_out c.as_str.result.now (path_bytes c.args.path) c.args.self.now.files c.remove.new.self c.as_str.ensures
       c.remove.ensures.updates);
   unmoved = tt;
