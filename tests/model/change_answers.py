@@ -154,7 +154,11 @@ def answer_image(row, folder, is_version_4=False):
     if "removed" in row:
         edits.mark_removed(found)
     if "tree" in row[4:]:
-        found.tree = words.tree_of(row[-1], kind)
+        found.tree = words.tree_of(words.named(row, "tree"), kind)
+    if "staged" in row[4:]:
+        if choice != "kept":
+            raise ValueError("a staged entry beside another choice than kept")
+        edits.stage_removed(found, words.entry_of(words.named(row, "staged"), kind))
     options = writing.Options(*CHOICES[choice], trailer == "digest", is_version_4, choice == "kept")
     try:
         for _ in range(times):

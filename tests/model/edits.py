@@ -38,6 +38,16 @@ def mark_removed(state):
     state.fits = False
 
 
+def stage_removed(state, entry):
+    """Stages an entry that a file leaves out, where none has its path and none is a file where it needs a folder.
+
+    What an edit makes of the extensions isn't said here: what speaks of the entries isn't kept beside such an entry.
+    """
+    entry.flags |= REMOVE
+    state.push(entry)
+    sort(state)
+
+
 def make_executable(state, path, stage):
     """Gives the entry of a path and a stage, where there is one, the mode of a file that can be run."""
     for entry in state.entries:

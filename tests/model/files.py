@@ -34,6 +34,7 @@ def index_at(kind, name, files):
     link, found.link = found.link, None
     if link is not None and link.shared != null_id(kind):
         found.entries = merging.merged(link, found, shared_at(kind, link.shared, files))
+        found.fits = link.has_bitmaps
     return found, checksum
 
 

@@ -23,7 +23,8 @@ AVERAGE_TAIL = 80
 class State:
     """An index in memory. `storage` has the bytes of the paths in the order in which the entries came.
 
-    `fits` says whether the extensions speak of these entries, and not of those before an edit.
+    `fits` says whether the extensions speak of these entries, and not of those before an edit, or of those of a shared
+    index too.
     """
 
     kind: str
@@ -156,6 +157,7 @@ def take_extensions(state, items, limit):
     state.had_offset_table = extensions.OFFSET_TABLE in signatures
     state.tree = last_value(items, extensions.TREE, lambda data: trees.read(data, kind, limit))
     state.link = last_value(items, extensions.LINK, lambda data: extensions.read_link(data, kind))
+    state.fits = state.link is None or state.link.shared == null_id(kind)
     state.resolve_undo = last_value(
         items, extensions.RESOLVE_UNDO, lambda data: extensions.read_resolve_undo(data, kind))
     state.untracked = last_value(items, extensions.UNTRACKED, lambda data: untracked_cache.read(data, kind, limit))

@@ -83,17 +83,19 @@ def item_bytes(signature, content):
 def kept_items(state, count):
     """All that a state has and that fits so many entries that are written, in git's order.
 
-    An untracked cache with an empty name and a monitor's answer that isn't of the entries are left out.
+    An untracked cache with an empty name and a monitor's answer that isn't of the entries are left out. What speaks of
+    the entries is left out beside one that isn't written.
     """
+    fits = state.fits and count == len(state.entries)
     items = []
-    if state.tree is not None and state.fits:
+    if state.tree is not None and fits:
         items.append((extensions.TREE, trees.to_bytes(trees.in_git_order(state.tree))))
     if state.resolve_undo is not None:
         items.append((extensions.RESOLVE_UNDO, extensions.resolve_undo_bytes(state.resolve_undo)))
     cache, monitor = state.untracked, state.monitor
-    if cache is not None and state.fits and all(name for each in cache.directories for name in each.untracked):
+    if cache is not None and fits and all(name for each in cache.directories for name in each.untracked):
         items.append((extensions.UNTRACKED, untracked_cache.to_bytes(cache, state.kind)))
-    if monitor is not None and state.fits and monitor.dirty.is_within(count):
+    if monitor is not None and fits and monitor.dirty.is_within(count):
         items.append((extensions.MONITOR, extensions.monitor_bytes(monitor)))
     return items + [(extensions.SPARSE, b"")] * state.is_sparse
 

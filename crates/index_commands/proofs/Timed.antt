@@ -8,7 +8,7 @@ use Rattle.gix_index.specs.Edits.{with_records, with_time}
 use Rattle.gix_index.specs.FileTime.{FileTime}
 use Rattle.index_state.specs.Racy.{MayBeTrusted, smudged}
 use Rattle.index_failures.specs.Options.{IsBeginOf1970}
-use Rattle.index_commands.specs.Updating.{IsRenewed, IsTimed}
+use Rattle.index_commands.specs.Updated.{IsRenewed, IsTimed}
 
 -- without a change it stays
 pub timed_none : (cs : List Change) (v : Contents) → (length cs == 0) ≡ true → IsTimed cs v v

@@ -2,4 +2,5 @@ pub mod Checking
 pub mod Listing
 pub mod Rewriting
 pub mod Trees
+pub mod Updated
 pub mod Updating

@@ -2,7 +2,8 @@
 
 ghost use Rattle.gix_index.specs.Order.{IsStrictlyOrdered};
 ghost use Rattle.gix_index.specs.State.{PathsInStorage, contents};
-ghost use Rattle.index_commands.specs.Updating.{BeginsIndex, ChangesState, GivesUpdated, IsTimed, UpdatesIndex};
+ghost use Rattle.index_commands.specs.Updated.{IsTimed};
+ghost use Rattle.index_commands.specs.Updating.{BeginsIndex, ChangesState, GivesUpdated, UpdatesIndex};
 
 use crate::rewrite::{Form, choice};
 use gix_index::change::{ApplyError, Change};

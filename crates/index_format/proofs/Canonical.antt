@@ -31,12 +31,12 @@ use Rattle.index_format.specs.declared.write.Options.{Options}
 use Rattle.index_format.specs.Answer.{IsAnswer}
 use Rattle.index_format.specs.Contents.{Contents}
 use Rattle.index_format.specs.Image.{asks_for, body, chosen, entries_bytes, entries_end, has_marker, image, image_version}
-use Rattle.index_format.specs.Image.{is_kept, items_of, unmarked}
+use Rattle.index_format.specs.Image.{fits_written, is_kept, items_of, unmarked}
 use Rattle.index_format.specs.Kept.{AreWellFormed, kept, tree_and_mark, where_fit}
 use Rattle.index_format.specs.Outcome.{Outcome}
 use Rattle.index_format.specs.Storable.{IsWritable, IsUnmistakable}
 use Rattle.index_format.specs.Stored.{expected, kept_value}
-use Rattle.index_format.proofs.KeptExtensions.{cache_again, count_again, monitor_again, same_cache, same_monitor}
+use Rattle.index_format.proofs.KeptExtensions.{all_written, cache_again, count_again, monitor_again, same_cache, same_monitor}
 use Rattle.index_format.proofs.KeptExtensions.{ordered_whole, tree_stays, where_twice}
 use Rattle.index_format.proofs.OnceAnswers.{answer_one}
 use Rattle.index_format.proofs.ReadValues.{same_value, IsReadValue, answer_read}
@@ -146,14 +146,15 @@ expected_stays kind bytes v options other time same h =
     subst (λ (k : Kind). IfSome v.extensions.tree (λ t. stored_node k t ≡ t)) (sym h.is_kind) h.tree in
     let mark : e.extensions.sparse ≡ v.extensions.sparse =
     ap (λ (xs : List Record). v.extensions.sparse || has_directory xs) rs ∙ h.sparse in
-    let before : chosen_by all asked true (length (written e.records)) e.extensions ≡ chosen_by all asked true
-    (length (written e.records)) (read_of v.kind (chosen_by all asked v.fit (length (written v.records)) v.extensions)
-    e.extensions.sparse e.extensions) =
-    ap (λ (x : Extensions). chosen_by all asked true (length (written e.records)) (read_of v.kind (chosen_by (is_kept x)
-    (asks_for x (codes "TREE")) v.fit (length (written v.records)) v.extensions) e.extensions.sparse e.extensions))
-    (sym same) in
+    let before : chosen_by all asked (fits_written e) (length (written e.records)) e.extensions ≡ chosen_by all asked
+    true (length (written e.records)) (read_of v.kind (chosen_by all asked (fits_written v)
+    (length (written v.records)) v.extensions) e.extensions.sparse e.extensions) =
+    ap (λ (fit : Bool). chosen_by all asked fit (length (written e.records)) e.extensions) (all_written v.records)
+    ∙ ap (λ (x : Extensions). chosen_by all asked true (length (written e.records)) (read_of v.kind
+    (chosen_by (is_kept x) (asks_for x (codes "TREE")) (fits_written v) (length (written v.records)) v.extensions)
+    e.extensions.sparse e.extensions)) (sym same) in
     let again : chosen e other ≡ chosen v other =
-    before ∙ chosen_again all asked v.fit (length (written e.records)) (length (written v.records)) v.kind v.extensions
+    before ∙ chosen_again all asked (fits_written v) (length (written e.records)) (length (written v.records)) v.kind v.extensions
     e.extensions.sparse (count_again v.records) mark tree in
     let is : items_of e other ≡ items_of v other = ap (items v.kind) again in
     let had : all ≡ true → has_marker v options ≡ v.extensions.had_end_marker = λ k.
@@ -188,10 +189,10 @@ with_all v time version rs t e sparse marker = record {
 -- Where all is kept of a value that was read, with extensions that fit and are well formed, a reader has all of it, but
 -- for a link and an offset table.
 pub kept_is_whole : (kind : Kind) (bytes : List ℕ) (v : Contents) (options : Options) (time : FileTime)
-    → IsReadValue kind bytes v → is_kept options.extensions ≡ true
+    → IsReadValue kind bytes v → is_kept options.extensions ≡ true → v.fit ≡ true
     → AreWellFormed (length (written v.records)) v.extensions
     → expected v options time ≡ kept_value v time (image_version v options)
-kept_is_whole kind bytes v options time h all well =
+kept_is_whole kind bytes v options time h all fit well =
     let n : ℕ = length (written v.records) in
     let o : Outcome = v.extensions in
     let version : Version = image_version v options in
@@ -200,10 +201,14 @@ kept_is_whole kind bytes v options time h all well =
     subst (λ (k : Kind). IfSome o.tree (λ t. stored_node k t ≡ t)) (sym h.is_kind) h.tree in
     let mark : (o.sparse || has_directory (stored_records v.records)) ≡ o.sparse =
     ap (λ (xs : List Record). o.sparse || has_directory xs) rs ∙ h.sparse in
+    let whole : eqb (length (written v.records)) (length v.records) ≡ true =
+    subst (λ (l : List Record). eqb (length (written l)) (length l) ≡ true) rs (all_written v.records) in
+    let fits : fits_written v ≡ true =
+    ap (λ (b : Bool). b && eqb (length (written v.records)) (length v.records)) fit ∙ whole in
     let ordered : Option Node = option_map in_git_order o.tree in
     let e : chosen v options ≡ of_parts ordered o.resolve_undo o.untracked o.fs_monitor o.sparse =
-    ap (λ (k : Bool). chosen_by k (asks_for options.extensions (codes "TREE")) v.fit n o) all
-    ∙ ap (λ (fit : Bool). kept fit n o) h.fit
+    ap (λ (k : Bool). chosen_by k (asks_for options.extensions (codes "TREE")) (fits_written v) n o) all
+    ∙ ap (λ (b : Bool). kept b n o) fits
     ∙ same_parts _ _ o.resolve_undo _ _ _ _ _ _ refl (same_cache o.untracked well.names)
     (same_monitor n o.fs_monitor well.bits) refl in
     ap (λ (xs : List Record). with_all v time version xs (option_map (stored_node v.kind) (chosen v options).tree)
@@ -255,11 +260,11 @@ pub kept_reads_back : (kind : Kind) (time again : FileTime) (first second : Read
     → IsWritable v options → IsUnmistakable v options → second.alloc_limit_bytes ≡ None
     → second.expected_checksum ≡ None
     → IsAnswer kind again second (image v options) (Ok (w, d)) → is_kept options.extensions ≡ true
-    → AreWellFormed (length (written v.records)) v.extensions → w ≡ kept_value v again (image_version v options)
+    → v.fit ≡ true → AreWellFormed (length (written v.records)) v.extensions → w ≡ kept_value v again (image_version v options)
 kept_reads_back kind time again first second bytes v w c d options are read writable unmistakable limit check reread all
-    well =
+    fit well =
     reread_is kind time again first second bytes v w c d options are read writable unmistakable limit check reread
-    ∙ kept_is_whole kind bytes v options again (answer_read kind time first bytes v c read) all well
+    ∙ kept_is_whole kind bytes v options again (answer_read kind time first bytes v c read) all fit well
 
 -- a value that was read, written, read and written again by the same options is the same bytes twice
 pub rewrite_is_canonical : (kind : Kind) (time again : FileTime) (first second : ReadOptions) (bytes : List ℕ)

@@ -1,9 +1,10 @@
 -- What is kept of extensions can be spelled, and is kept again.
-use Rattle.std.proofs.Common.{◌≡◌, ℕ, ◌^◌, ◌<◌, Bool, true, false, cond, List, length, Option, Some, None}
+use Rattle.std.proofs.Common.{◌≡◌, ℕ, ◌^◌, ◌<◌, ◌&&◌, Bool, true, false, cond, eqb, List, length, Option, Some, None}
 use Rattle.std.proofs.Common.{refl, ap, sym, ◌∙◌}
 use Rattle.std.specs.Prelude.{IfSome}
 use Rattle.std.specs.List.{flat_map}
 use Rattle.std.specs.Option.{option_map}
+use Rattle.std.proofs.lemmas.Bool.{eq-eqb}
 use Rattle.std.proofs.lemmas.List.{length-map}
 use Rattle.index_parts.specs.declared.hash.Kind.{Kind}
 use Rattle.index_cached_tree.specs.GitOrder.{in_git_order}
@@ -73,17 +74,21 @@ pub fit_twice : {A : Type 0} (fit : Bool) (f : Option A → Option A) → ((o : 
 fit_twice true f twice none o = twice o
 fit_twice false f twice none o = none
 
-pub fit_again : {A : Type 0} (fit : Bool) (f g : Option A → Option A) (o : Option A)
-    → g (where_fit fit (f o)) ≡ where_fit fit (f o) → where_fit fit (g (where_fit fit (f o))) ≡ where_fit fit (f o)
-fit_again true f g o h = h
-fit_again false f g o h = refl
+-- what fitted fits again
+pub fit_again : {A : Type 0} (again fit : Bool) (f g : Option A → Option A) (o : Option A) → (fit ≡ true → again ≡ true)
+    → g (where_fit fit (f o)) ≡ where_fit fit (f o) → where_fit again (g (where_fit fit (f o))) ≡ where_fit fit (f o)
+fit_again true fit f g o fits h = h
+fit_again false true f g o fits h = let e : false ≡ true = fits refl in absurd cc
+fit_again false false f g o fits h = refl
 
-pub tree_again : (kind : Kind) (fit : Bool) (tree : Option Node)
-    → option_map (stored_node kind) (where_fit fit (option_map (stored_node kind) (where_fit fit tree)))
+pub tree_again : (kind : Kind) (again fit : Bool) (tree : Option Node) → (fit ≡ true → again ≡ true)
+    → option_map (stored_node kind) (where_fit again (option_map (stored_node kind) (where_fit fit tree)))
     ≡ option_map (stored_node kind) (where_fit fit tree)
-tree_again kind true None = refl
-tree_again kind true (Some t) = ap (λ (u : Node). Some u) (node_twice kind t)
-tree_again kind false tree = refl
+tree_again kind true true None fits = refl
+tree_again kind true true (Some t) fits = ap (λ (u : Node). Some u) (node_twice kind t)
+tree_again kind true false tree fits = refl
+tree_again kind false true tree fits = let e : false ≡ true = fits refl in absurd cc
+tree_again kind false false tree fits = refl
 
 -- a tree of which a file keeps all
 pub tree_stays : (kind : Kind) (fit : Bool) (tree : Option Node) → IfSome tree (λ t. stored_node kind t ≡ t)
@@ -98,15 +103,16 @@ pub ordered_stays : (kind : Kind) (tree : Option Node)
 ordered_stays kind None = refl
 ordered_stays kind (Some t) = ap (λ (u : Node). Some u) (stored_in_git_order kind t)
 
-pub ordered_again : (kind : Kind) (fit : Bool) (tree : Option Node) → option_map (stored_node kind) (option_map
-    in_git_order (where_fit fit (option_map (stored_node kind) (option_map in_git_order (where_fit fit tree)))))
+pub ordered_again : (kind : Kind) (again fit : Bool) (tree : Option Node) → (fit ≡ true → again ≡ true)
+    → option_map (stored_node kind) (option_map in_git_order (where_fit again (option_map (stored_node kind)
+    (option_map in_git_order (where_fit fit tree)))))
     ≡ option_map (stored_node kind) (option_map in_git_order (where_fit fit tree))
-ordered_again kind fit tree =
+ordered_again kind again fit tree fits =
     let kept : option_map (stored_node kind) (option_map in_git_order (where_fit fit tree))
     ≡ option_map (stored_node kind) (where_fit fit tree) = ordered_stays kind (where_fit fit tree) in
-    ap (λ (o : Option Node). option_map (stored_node kind) (option_map in_git_order (where_fit fit o))) kept
-    ∙ ordered_stays kind (where_fit fit (option_map (stored_node kind) (where_fit fit tree)))
-    ∙ tree_again kind fit tree ∙ sym kept
+    ap (λ (o : Option Node). option_map (stored_node kind) (option_map in_git_order (where_fit again o))) kept
+    ∙ ordered_stays kind (where_fit again (option_map (stored_node kind) (where_fit fit tree)))
+    ∙ tree_again kind again fit tree fits ∙ sym kept
 
 -- a tree of which a file keeps all, in git's order
 pub ordered_whole : (kind : Kind) (fit : Bool) (tree : Option Node) → IfSome tree (λ t. stored_node kind t ≡ t)
@@ -148,6 +154,18 @@ monitor_again fit more count o e =
 -- as many records are written again
 pub count_again : (rs : List Record) → length (written (stored_records rs)) ≡ length (written rs)
 count_again rs = ap length (written_stored (written rs)) ∙ length-map (written rs) stored_record
+
+-- and none of those that a file has is left out
+pub all_written : (rs : List Record) → eqb (length (written (stored_records rs))) (length (stored_records rs)) ≡ true
+all_written rs =
+    ap (λ (l : List Record). eqb (length l) (length (stored_records rs))) (written_stored (written rs))
+    ∙ eq-eqb (length (stored_records rs)) (length (stored_records rs)) refl
+
+-- what fitted the records that were written fits them again
+pub fits_again : (fit : Bool) (rs : List Record) → (fit && eqb (length (written rs)) (length rs)) ≡ true
+    → (fit && eqb (length (written (stored_records rs))) (length (stored_records rs))) ≡ true
+fits_again true rs e = all_written rs
+fits_again false rs e = e
 
 -- ---- what is kept is all
 

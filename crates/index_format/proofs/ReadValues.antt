@@ -137,7 +137,6 @@ pub record IsReadValue (kind : Kind) (bytes : List ℕ) (v : Contents) : Type 0 
   pub kept : AreKept kind v.records
   pub tree : IfSome v.extensions.tree (λ t. stored_node kind t ≡ t)
   pub sparse : (v.extensions.sparse || has_directory v.records) ≡ v.extensions.sparse
-  pub fit : v.fit ≡ true
   pub storable : AreBytes bytes → IsStorable v
   pub keepable : AreBytes bytes → AreKeepable v.kind v.extensions
 
@@ -158,7 +157,6 @@ value_read kind time options bytes v h =
       tree = tree_value kind limit (λ t. stored_node kind t ≡ t)
           (λ b t. read_stays kind limit b t) content h.outcome.tree h.is_outcome.tree;
       sparse = or_same h.outcome.sparse (has_directory h.records);
-      fit = refl;
       keepable = λ b.
           let all = keepable kind limit h.extensions h.items h.tail h.outcome (h.are_bytes b) h.is_walk h.is_outcome in
           record { resolve_undo = all.resolve_undo; untracked = all.untracked; fs_monitor = all.fs_monitor };

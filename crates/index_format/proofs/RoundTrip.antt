@@ -41,7 +41,7 @@ use Rattle.index_format.specs.declared.write.Options.{Options}
 use Rattle.index_format.specs.Answer.{Answer, trailer_checksum, IsVerified, value_of, whole, IsEnding, walked}
 use Rattle.index_format.specs.Answer.{IsBehindHeader, has, IsCounted, IsAnswer}
 use Rattle.index_format.specs.Image.{asks_for, is_kept, image_version, entries_bytes, entries_end, chosen, items_of, has_marker}
-use Rattle.index_format.specs.Image.{marks_extensions, marker_of, unmarked, body, trailer, image}
+use Rattle.index_format.specs.Image.{fits_written, marks_extensions, marker_of, unmarked, body, trailer, image}
 use Rattle.index_format.specs.Kept.{kept, read_as, tree_and_mark}
 use Rattle.index_format.specs.Outcome.{Outcome, AreSound, IsOutcome}
 use Rattle.index_format.specs.Contents.{Contents}
@@ -297,7 +297,7 @@ room_by v options kinds.Sha1 false e m each low u room = record { offset = None;
 chosen_sparse : (v : Contents) (options : Options) → (chosen v options).sparse ≡ v.extensions.sparse
 chosen_sparse v options = by (is_kept options.extensions)
   where
-    by : (k : Bool) → (cond k (kept v.fit (length (written v.records)) v.extensions)
+    by : (k : Bool) → (cond k (kept (fits_written v) (length (written v.records)) v.extensions)
         (tree_and_mark (asks_for options.extensions (codes "TREE")) v.extensions)).sparse ≡ v.extensions.sparse
     by true = refl
     by false = refl

@@ -12,10 +12,11 @@ use Rattle.index_small_extensions.specs.FsMonitor.{Monitor}
 use Rattle.index_untracked.specs.Untracked.{Cache}
 use Rattle.index_format.specs.declared.write.Options.{Options}
 use Rattle.index_format.specs.Contents.{Contents}
-use Rattle.index_format.specs.Image.{asks_for, is_kept}
+use Rattle.index_format.specs.Image.{asks_for, fits_written, is_kept}
 use Rattle.index_format.specs.Kept.{cache_with_names, kept, monitor_within, tree_and_mark}
 use Rattle.index_format.specs.Stored.{stored}
-use Rattle.index_format.proofs.KeptExtensions.{cache_again, count_again, fit_again, monitor_again, ordered_again, tree_again}
+use Rattle.index_format.proofs.KeptExtensions.{cache_again, count_again, fit_again, fits_again, monitor_again}
+use Rattle.index_format.proofs.KeptExtensions.{ordered_again, tree_again}
 
 or_twice : (a b : Bool) → ((a || b) || b) ≡ (a || b)
 or_twice true b = refl
@@ -42,7 +43,7 @@ with_parts v e rs ss a b t u c d m n h i j k l = rw (h, i, j, k, l) refl
 
 -- the extensions that are chosen, by whether all is kept, and whether a cached tree is asked for
 abbrev chosen_by : Bool → Bool → Contents → Chosen
-chosen_by all asked v = cond all (kept v.fit (length (written v.records)) v.extensions) (tree_and_mark asked v.extensions)
+chosen_by all asked v = cond all (kept (fits_written v) (length (written v.records)) v.extensions) (tree_and_mark asked v.extensions)
 
 abbrev stored_by : Bool → Bool → Contents → Contents
 stored_by all asked v = with_kept v (chosen_by all asked v) (stored_records v.records)
@@ -68,14 +69,17 @@ twice_by all asked v =
     by true again sparse =
         let n : ℕ = length (written v.records) in
         let more : ℕ = length (written (stored_records v.records)) in
-        with_parts v (kept v.fit n v.extensions) _ _ _ _ _ _ _ _ _ _ again sparse
-        (ordered_again v.kind v.fit v.extensions.tree)
-        (fit_again v.fit cache_with_names cache_with_names v.extensions.untracked
-        (cache_again v.fit v.extensions.untracked))
-        (fit_again v.fit (monitor_within n) (monitor_within more) v.extensions.fs_monitor
-        (monitor_again v.fit more n v.extensions.fs_monitor (count_again v.records)))
+        let fit : Bool = fits_written v in
+        let now : Bool = fits_written (stored_by true asked v) in
+        let fits : fit ≡ true → now ≡ true = fits_again v.fit v.records in
+        with_parts v (kept fit n v.extensions) _ _ _ _ _ _ _ _ _ _ again sparse
+        (ordered_again v.kind now fit v.extensions.tree fits)
+        (fit_again now fit cache_with_names cache_with_names v.extensions.untracked fits
+        (cache_again fit v.extensions.untracked))
+        (fit_again now fit (monitor_within n) (monitor_within more) v.extensions.fs_monitor fits
+        (monitor_again fit more n v.extensions.fs_monitor (count_again v.records)))
     by false again sparse = with_parts v (tree_and_mark asked v.extensions) _ _ _ _ _ _ _ _ _ _ again sparse
-        (tree_again v.kind asked v.extensions.tree) refl refl
+        (tree_again v.kind asked asked v.extensions.tree (λ e. e)) refl refl
 
 -- what a file keeps of what it kept is the same
 pub stored_twice : (v : Contents) (options : Options) → stored (stored v options) options ≡ stored v options

@@ -30,7 +30,7 @@ use Rattle.index_extension_list.proofs.Contents.{last_cache, last_link, last_mon
 use Rattle.index_extension_list.proofs.Marks.{marked, sparse, tabled}
 use Rattle.index_entries.specs.EntryImage.{written}
 use Rattle.index_format.specs.Contents.{Contents}
-use Rattle.index_format.specs.Image.{chosen, is_kept, items_of, asks_for}
+use Rattle.index_format.specs.Image.{chosen, fits_written, is_kept, items_of, asks_for}
 use Rattle.index_format.specs.Keepable.{AreKeepable}
 use Rattle.index_format.specs.Kept.{kept, read_as, tree_and_mark}
 use Rattle.index_format.specs.Outcome.{ExtensionFault, is_understood, IsFault, unknown, broken_link, AreSound}
@@ -132,11 +132,12 @@ pub chosen_spellable : (v : Contents) (options : Options) → IsStorable v → I
 chosen_spellable v options h keepable small = by (is_kept options.extensions) keepable small
   where
     by : (k : Bool) → (k ≡ true → AreKeepable v.kind v.extensions)
-        → length (flat_map item_bytes (items v.kind (cond k (kept v.fit (length (written v.records)) v.extensions)
+        → length (flat_map item_bytes (items v.kind (cond k
+        (kept (fits_written v) (length (written v.records)) v.extensions)
         (tree_and_mark (asks_for options.extensions (codes "TREE")) v.extensions)))) < 2 ^ 32
-        → AreSpellable v.kind (cond k (kept v.fit (length (written v.records)) v.extensions)
+        → AreSpellable v.kind (cond k (kept (fits_written v) (length (written v.records)) v.extensions)
         (tree_and_mark (asks_for options.extensions (codes "TREE")) v.extensions))
-    by true k lt = kept_spellable v.kind v.fit (length (written v.records)) v.extensions h.tree (k refl) lt
+    by true k lt = kept_spellable v.kind (fits_written v) (length (written v.records)) v.extensions h.tree (k refl) lt
     by false k lt = record {
       tree = fit_has (IsStorableTree v.kind) (asks_for options.extensions (codes "TREE")) v.extensions.tree h.tree;
       resolve_undo = tt;

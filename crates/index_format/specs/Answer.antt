@@ -1,7 +1,7 @@
 -- What reading a file gives: the value and the trailer's id, or the first fault (gitformat-index, as a whole).
 use Rattle.std.specs.Prelude.{◌≡◌, ◌≢◌, ℕ, ◌+◌, ◌<◌, ◌||◌, ◌⊎◌, nat_lt, List, ◌++◌, length, drop, codes, Option, Some, true}
-use Rattle.std.specs.Prelude.{None, Result, Ok, Err, MatchBool, MatchResult, if◌then◌else◌}
-use Rattle.index_parts.specs.Id.{id_len, is_null, make_id}
+use Rattle.std.specs.Prelude.{None, Bool, Result, Ok, Err, MatchBool, MatchResult, if◌then◌else◌}
+use Rattle.index_parts.specs.Id.{id_bytes, id_len, is_null, make_id}
 use Rattle.index_parts.specs.declared.hash.Kind.{Kind}
 use Rattle.index_parts.specs.declared.hash.ObjectId.{ObjectId}
 use Rattle.index_metadata.specs.declared.entry.stat.FileTime.{FileTime}
@@ -14,6 +14,7 @@ use Rattle.index_entries.specs.Header.{HeaderFault, Corrupt, header_len, header_
 use Rattle.index_entries.specs.Limits.{most_entries, is_too_large}
 use Rattle.index_format.specs.Outcome.{Outcome, ExtensionFault, IsFirstFault, AreSound, IsOutcome}
 use Rattle.index_entries.specs.Record.{Record, has_directory}
+use Rattle.index_split.specs.Link.{LinkValue}
 use Rattle.index_format.specs.Contents.{Contents}
 
 -- why bytes are no index, with what a fault names: the entry's place; the expected and the actual length of the
@@ -39,6 +40,12 @@ IsVerified (Some expected) (Some actual) whole a =
     ((actual ≡ expected) × (a ≡ whole)) ⊎ ((actual ≢ expected) × (a ≡ Err (Verify actual expected)))
 IsVerified expected actual whole a = a ≡ whole
 
+-- whether extensions speak of the entries beside them, and not of those of a shared index too: there is no link, or its
+-- id is null
+abbrev pub speak_of_own : Option LinkValue → Bool
+speak_of_own None = true
+speak_of_own (Some l) = is_null (id_bytes l.shared)
+
 -- the value of these records and of what the extensions come to
 abbrev pub value_of : Kind → FileTime → Version → List Record → Outcome → Contents
 value_of kind time version rs o = record {
@@ -47,7 +54,7 @@ value_of kind time version rs o = record {
   version = version;
   records = rs;
   extensions = record o { sparse = o.sparse || has_directory rs };
-  fit = true;
+  fit = speak_of_own o.link;
 }
 
 -- what follows from the extensions, the bytes that their walk leaves, and the trailer: the first fault of an extension,

@@ -50,11 +50,15 @@ asks_for (extensions.Given tree marker) signature =
     else false
 asks_for extensions.None signature = false
 
+-- whether what speaks of the list of entries fits those that are written: it fits all of them, and none is left out
+abbrev pub fits_written : Contents → Bool
+fits_written v = v.fit && (length (written v.records) == length v.records)
+
 -- the extensions that are chosen: all that fit the entries that are written, or the cached tree, where it is asked for,
 -- and the mark of a sparse index, which no option leaves out
 abbrev pub chosen : Contents → Options → Chosen
 chosen v options =
-    if is_kept options.extensions then kept v.fit (length (written v.records)) v.extensions
+    if is_kept options.extensions then kept (fits_written v) (length (written v.records)) v.extensions
     else tree_and_mark (asks_for options.extensions (codes "TREE")) v.extensions
 
 -- all extensions before the end marker

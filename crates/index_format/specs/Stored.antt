@@ -35,7 +35,7 @@ expected v options time = record (stored v options) {
   fit = true;
 }
 
--- all of a value but a link, which is merged, and an offset table, as it is read again at this time and of this version
+-- all of a value but a link and an offset table, as it is read again at this time and of this version
 abbrev pub kept_value : Contents → FileTime → Version → Contents
 kept_value v time version = record v {
   time = time;

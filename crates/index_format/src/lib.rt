@@ -29,7 +29,7 @@ pub struct Parts {
     pub path_backing: PathStorage,
     /// What the extensions say.
     pub extensions: Outcome,
-    /// Whether they speak of these entries: true once a file is read, false behind an edit of entries that doesn't keep
-    /// them.
+    /// Whether they speak of these entries: true once a file is read, but for a split index alone; false behind an edit
+    /// of entries that doesn't keep them.
     pub extensions_fit: bool,
 }

@@ -25,8 +25,9 @@ pub enum Extensions {
     },
     /// All that the state has and that still fits its entries, in git's order: the cached tree, resolve-undo, the
     /// untracked cache, what a file system monitor said, and an end marker where there was one. A cached tree, an
-    /// untracked cache and a monitor's answer are left out once entries were edited in a way that doesn't keep them; so
-    /// are a cache with an empty name and a monitor with more bits than entries, which git doesn't read as they are.
+    /// untracked cache and a monitor's answer are left out once entries were edited in a way that doesn't keep them,
+    /// where the state is a split index that was read alone, and where an entry is marked `REMOVE`. So are a cache with
+    /// an empty name and a monitor with more bits than entries, which git doesn't read as they are.
     Kept,
     /// None, which gives the smallest file.
     None,

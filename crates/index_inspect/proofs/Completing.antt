@@ -42,13 +42,14 @@ index_of s h = record {
 }
 
 -- with other records it is an index of these
-index_moved : (old new : State) → contents new ≡ with_records (contents old) (records new) → IsPlainIndex old
-    → PathsInStorage new → IsStorable (contents new) → IsIndexOf (contents old).kind (records new) new
-index_moved old new e h placed storable = record {
+index_moved : (old new : State) (fit : Bool) → contents new ≡ refit (contents old) (records new) fit
+    → IsPlainIndex old → PathsInStorage new → IsStorable (contents new)
+    → IsIndexOf (contents old).kind (records new) new
+index_moved old new fit e h placed storable = record {
   time = (contents old).time;
   sparse = has_directory (records old);
-  fit = true;
-  is = e ∙ ap (λ (c : Contents). with_records c (records new)) h.alone;
+  fit = fit;
+  is = e ∙ ap (λ (c : Contents). refit c (records new) fit) h.alone;
   placed = placed;
   storable = storable;
 }
@@ -111,9 +112,19 @@ pub stays : (link : Option LinkValue) (found : Bool) (shared : Option Contents) 
 stays link found shared own fate is = record { is = is; same_kind = refl; index = index_of own }
 
 merged_others : (b : Option BitmapPair) (shared old new : Contents) → MergesBy b shared old new
-    → new ≡ with_records old new.records
-merged_others None shared old new e = subst (λ (c : Contents). c ≡ with_records old c.records) (sym e) refl
-merged_others (Some b) shared old new h = h.others
+    → new ≡ refit old new.records new.fit
+merged_others None shared old new e = subst (λ (c : Contents). c ≡ refit old c.records c.fit) (sym e) refl
+merged_others (Some b) shared old new h =
+    h.others ∙ ap (λ (f : Bool). refit old new.records f) (sym (ap (λ (c : Contents). c.fit) h.others))
+
+-- what else a merged index has, it may have had before
+merged_anew : (b : Option BitmapPair) (shared old new : Contents) → MergesBy b shared old new
+    → MergesBy b shared (with_records new old.records) new
+merged_anew None shared old new e = subst (λ (c : Contents). new ≡ with_records new c.records) e refl
+merged_anew (Some b) shared old new h = record {
+  is = h.is;
+  others = ap (λ (f : Bool). refit new new.records f) (ap (λ (c : Contents). c.fit) h.others);
+}
 
 pub joins : (l : LinkValue) (found : Bool) (own new shared : State) → is_null (id_bytes l.shared) ≡ false
     → CanBeShared own shared → IsDissolved l (contents shared) (contents own) (contents new)
@@ -122,13 +133,16 @@ pub joins : (l : LinkValue) (found : Bool) (own new shared : State) → is_null 
     → IsStorable (contents new))
     → Completes (Some l) found (Some (contents shared)) own (record { state = new; shared = fates.Merged })
 joins l found own new shared named fits d placed storable =
-    let e : contents new ≡ with_records (contents own) (records new) =
+    let e : contents new ≡ refit (contents own) (records new) (contents new).fit =
     merged_others l.bitmaps (contents shared) (contents own) (contents new) d.merged in
     record {
-      is = merged l (contents shared) (contents own) (refl, named) refl
-          (subst (λ (c : Contents). IsDissolved l (contents shared) (contents own) c) e d) refl;
+      is = merged l (contents shared) (contents new) (refl, named) refl (record {
+        alone = d.alone;
+        merged = merged_anew l.bitmaps (contents shared) (contents own) (contents new) d.merged;
+      })
+          refl;
       same_kind = ap (λ (c : Contents). c.kind) e;
-      index = λ h. index_moved own new e h (placed h.placed) (storable h.storable fits.storable fits.same_kind);
+      index = λ h. index_moved own new (contents new).fit e h (placed h.placed) (storable h.storable fits.storable fits.same_kind);
     }
 
 pub fits_not : (l : LinkValue) (found : Bool) (own new shared : State) (fault : LinkFault)
@@ -142,7 +156,7 @@ fits_not l found own new shared fault named is_fault u placed =
     record {
       is = unfit l (contents shared) (contents own) fault (refl, named) refl is_fault same refl;
       same_kind = ap (λ (c : Contents). c.kind) u.same_contents;
-      index = λ h. index_moved own new e h (placed h.placed) (subst IsStorable (sym u.same_contents) h.storable);
+      index = λ h. index_moved own new (contents own).fit e h (placed h.placed) (subst IsStorable (sym u.same_contents) h.storable);
     }
 
 -- ---- where memory is asked for

@@ -117,11 +117,11 @@ VersionLosesNothing =
     → image w chosen ≡ image v chosen
 
 -- where all extensions that fit are kept, and fit, what is read again is the value but for its time and version, a link
--- and an offset table
+-- of a null id and an offset table
 abbrev pub KeptLosesNothing : Type 0
 KeptLosesNothing =
     (v w : Contents) (options : WriteOptions) → (reread : IsReread v options w)
-    → is_kept options.extensions ≡ true → AreWellFormed (length (written v.records)) v.extensions
+    → is_kept options.extensions ≡ true → v.fit ≡ true → AreWellFormed (length (written v.records)) v.extensions
     → w ≡ kept_value v reread.time_again (image_version v options)
 
 -- ---- what was read of bytes

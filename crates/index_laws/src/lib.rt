@@ -78,9 +78,9 @@ pub fn version_change_loses_nothing()
 {}
 
 /// An index that was read, written with all extensions that fit, and read again, is what was read, but for its time, its
-/// version, a link, which is merged, and an offset table: where no name in its untracked cache is empty, and what a file
-/// system monitor said is of no more than the entries that are written. The premises are those of
-/// [`rewrite_is_canonical`].
+/// version, a link of a null id, and an offset table: where the extensions fit, as they do unless it is a split index, no
+/// name in its untracked cache is empty, and what a file system monitor said is of no more than the entries that are
+/// written. The other premises are those of [`rewrite_is_canonical`].
 pub fn kept_loses_nothing()
     ensures { KeptLosesNothing }
 {}

@@ -13,7 +13,7 @@ use Rattle.index_entries.specs.Entries.{AreEntries}
 use Rattle.index_entries.specs.Record.{Record, has_directory}
 use Rattle.index_format.specs.declared.decode.Options.{Options}
 use Rattle.index_format.specs.Answer.{Answer, Fault, IsAnswer, IsBehindHeader, IsClosed, IsEnding, IsVerified, faulty}
-use Rattle.index_format.specs.Answer.{has, left, short, trailer_checksum, value_of, walked, whole}
+use Rattle.index_format.specs.Answer.{has, left, short, speak_of_own, trailer_checksum, value_of, walked, whole}
 use Rattle.index_format.specs.Contents.{Contents}
 use Rattle.index_format.specs.Outcome.{Outcome}
 use Rattle.index_format.specs.Storable.{IsStorable}
@@ -111,7 +111,7 @@ bare_value kind time version rs o =
       version = version;
       records = [];
       extensions = record o { sparse = b };
-      fit = true;
+      fit = speak_of_own o.link;
     } in
     ap with_mark (or_none o.sparse (has_directory rs))
 

@@ -3,16 +3,18 @@
 pub mod entries;
 pub mod header;
 
+ghost use Rattle.std.specs.Option.{option_map};
 ghost use Rattle.std.specs.Prelude.{◌≡◌, ◌≤◌, ◌+◌, ◌*◌, ◌||◌, not, length, IfOk, IfErr, OnOk, All};
 ghost use Rattle.index_parts.specs.Id.{id_kind, id_len};
 ghost use Rattle.index_format.specs.Outcome.{outcome_of};
-ghost use Rattle.index_format.specs.Answer.{Answer, IsAnswer, IsVerified};
+ghost use Rattle.index_format.specs.Answer.{Answer, IsAnswer, IsVerified, speak_of_own};
 ghost use Rattle.index_format.specs.DecodeErrors.{Says};
 ghost use Rattle.index_parts.specs.Limit.{is_within};
 ghost use Rattle.index_entries.specs.Limits.{entry_cost};
 ghost use Rattle.index_format.specs.Storable.{IsStorable};
 ghost use Rattle.index_format.specs.Contents.{ExtensionIdsAreOf, parts_contents};
 ghost use Rattle.index_entries.specs.Record.{has_directory};
+ghost use Rattle.index_split.specs.Link.{link_of};
 ghost use Rattle.index_reading.specs.Head.{IsDeclared, LooksAt};
 ghost use Rattle.index_reading.specs.ReadParts.{AreOfKind, IsAnswerBehind, IsEndingAs, IsTakenAs};
 ghost use Rattle.index_reading.specs.ReadParts.{SaysDigest, SaysWhole};
@@ -27,6 +29,7 @@ use index_format::extension::Outcome;
 use index_metadata::entry::FileTime;
 use index_parts::hash::{Kind, ObjectId};
 use index_parts::read;
+use index_split::link::Link;
 use std::alloc::Global;
 
 /// How many bytes an entry counts as against [`Options::alloc_limit_bytes`].
@@ -47,6 +50,16 @@ fn verify(expected: Option<ObjectId>, actual: Option<ObjectId>) -> Result<(), Er
         return Err(Error::Verify { actual, expected });
     }
     Ok(())
+}
+
+/// Whether extensions speak of the entries beside them alone: there is no link, or its id is null.
+fn speak_of_own(link: &Option<Link>) -> bool
+    ensures { result ≡ speak_of_own (option_map link_of link.now) }
+{
+    match link {
+        Some(link) => link.shared_index_checksum.is_null(),
+        None => true,
+    }
 }
 
 /// What a file is read as.
@@ -92,6 +105,7 @@ fn read_parts(
     }
     let checksum = trailer::checksum(object_hash, trailer);
     verify(options.expected_checksum, checksum)?;
+    let extensions_fit = speak_of_own(&outcome.link);
     let (entries, path_backing) = read.list.into_parts();
     let state = Parts {
         object_hash,
@@ -103,7 +117,7 @@ fn read_parts(
             is_sparse: outcome.is_sparse || read.sparse,
             ..outcome
         },
-        extensions_fit: true,
+        extensions_fit,
     };
     Ok((state, checksum))
 }

@@ -1,5 +1,5 @@
 -- What becomes of a split index whose link is dissolved (gitformat-index, "Split index").
-use Rattle.std.specs.Prelude.{◌≡◌, List, ℕ, codes, Option, Some, None, IsSome, IfSome, Result, IfErr, IsOk, OnOk, OnErr}
+use Rattle.std.specs.Prelude.{◌≡◌, List, ℕ, true, codes, Option, Some, None, IsSome, IfSome, Result, IfErr, IsOk, OnOk, OnErr}
 use Rattle.index_merge.specs.Merge.{IsMerge, IsMergeFault}
 use Rattle.index_split.specs.declared.link.decode.Error.{Error}
 use Rattle.index_split.specs.Link.{BitmapPair, LinkFault, Corrupt, LinkValue, link_fault}
@@ -11,10 +11,11 @@ use Rattle.index_state.specs.State.{PathsInStorage, contents, entries_of}
 use Rattle.index_format.specs.Storable.{IsStorable}
 use Rattle.index_state.specs.declared.State.{State}
 
--- the records are those of the shared index and its own, merged by the bitmaps; all else stays
+-- The records are those of the shared index and its own, merged by the bitmaps, and the extensions speak of them; all
+-- else stays.
 pub record IsMerged (b : BitmapPair) (shared old new : Contents) : Type 0 where
   pub is : IsMerge b.delete.words b.replace.words shared.records old.records new.records
-  pub others : new ≡ record old { records = new.records }
+  pub others : new ≡ record old { records = new.records; fit = true }
 
 -- without bitmaps nothing changes
 abbrev pub MergesBy : Option BitmapPair → Contents → Contents → Contents → Type 0

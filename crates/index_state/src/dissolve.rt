@@ -33,6 +33,7 @@ fn merge_shared(link: &Link, split: &mut State, shared: State) -> Result<(), Err
     }
     split.parts.entries = entries;
     split.parts.path_backing = storage;
+    split.parts.extensions_fit = true;
     Ok(())
 }
 

@@ -23,7 +23,7 @@ impl State {
     /// kind. Behind them come the cached tree, where there is one and the options ask for it; the mark of a sparse
     /// index; and, behind one of these, an end marker, where there are entries, even ones that are left out, and the
     /// options ask for it. By `Extensions::Kept` all extensions that still fit come there, and an end marker where there
-    /// was one.
+    /// was one; of the cached tree, the untracked cache and a monitor's answer none does beside an entry that is left out.
     ///
     /// [`Error::TooManyEntries`], then [`Error::NulInPath`], then [`Error::TooLarge`], come before any byte and leave
     /// the writer as it was. [`Error::Io`] comes only where the writer failed, which then took a prefix of the bytes.

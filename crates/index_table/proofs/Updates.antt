@@ -46,29 +46,29 @@ module _ (refusal : Option ApplyError) (cs : List Change) (rs : List Record) (o 
         → refusal_among refusal cs rs ≡ Some (applies.Refused at cause)
     refused_among at cause h = first h.place h.exactly ∙ refusal_is _ at cause h.reason
 
-module _ (kind : Kind) (paths : List ℕ) (rows : List Row) (v : Contents) where
-  pub fallen : (e : OrderError) → SaysFall v.records e → MakesNothing kind paths rows v (order_told e)
+module _ (kind : Kind) (paths : List ℕ) (rows : List Row) (room : ℕ) (v : Contents) where
+  pub fallen : (e : OrderError) → SaysFall v.records e → MakesNothing kind paths rows room v (order_told e)
   fallen (orders.OutOfOrder index path stage previous_path previous_stage) h =
       inl (record { place = index; fall = h.0; fault_is = refl })
   fallen orders.Memory h = tt
 
   -- it isn't for want of room that nothing is made
-  pub none_passed : (e : Unwritten) (P : Image → Type 0) → MakesNothing kind paths rows v e
+  pub none_passed : (e : Unwritten) (P : Image → Type 0) → MakesNothing kind paths rows room v e
       → IfPassed (Err e) P
   none_passed (NoRoom told) P h = absurd h
   none_passed (Refused fault) P h = tt
   none_passed Memory P h = tt
 
-  pub none_made : (e : Unwritten) → MakesNothing kind paths rows v e
-      → IfRefused (Err e) (λ fault. IsUnmade kind paths rows fault v)
+  pub none_made : (e : Unwritten) → MakesNothing kind paths rows room v e
+      → IfRefused (Err e) (λ fault. IsUnmade kind paths rows room fault v)
   none_made (NoRoom told) h = absurd h
   none_made (Refused fault) h = h
   none_made Memory h = tt
 
 -- what holds of what the rows make of the value that was read
-pub made : (kind : Kind) (bytes shared paths : List ℕ) (rows : List Row) (before v : Contents) (P : Contents → Type 0)
-    → AreReadSo false kind bytes shared (λ w. w ≡ before) → IsChangedBy kind paths rows before v → P v
-    → Updates kind bytes shared paths rows P
-made kind bytes shared paths rows before v P read changed h =
+pub made : (kind : Kind) (bytes shared paths : List ℕ) (rows : List Row) (room : ℕ) (before v : Contents)
+    (P : Contents → Type 0) → AreReadSo false kind bytes shared (λ w. w ≡ before)
+    → IsChangedBy kind paths rows room before v → P v → Updates kind bytes shared paths rows P
+made kind bytes shared paths rows room before v P read changed h =
     read_so false kind bytes shared (MakesOf kind paths rows P) before read
-    (record { value = v; changed = changed; holds = h })
+    (record { value = v; room = room; changed = changed; holds = h })

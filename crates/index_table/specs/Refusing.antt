@@ -55,29 +55,29 @@ pub record HasUnfitChange (kind : Kind) (paths : List ℕ) (rows : List Row) (fa
   pub ordered : IsStrictlyOrdered v.records
   pub unfit : HasUnfitRow kind v.extensions.sparse paths rows fault
 
--- the entries are in order, each row is fit, and the fault is of the first row whose change is refused
-pub record HasRefusedChange (kind : Kind) (paths : List ℕ) (rows : List Row) (fault : Fault) (v : Contents)
+-- the entries are in order, each row is fit, and the fault is of the first row whose change is refused, over a storage of
+-- paths of so many bytes
+pub record HasRefusedChange (kind : Kind) (paths : List ℕ) (rows : List Row) (room : ℕ) (fault : Fault) (v : Contents)
     : Type 0 where
   pub ordered : IsStrictlyOrdered v.records
   pub fit : All (IsFit kind v.extensions.sparse paths) rows
   pub changes : List Change
   pub said : AreSaidBy paths rows changes
-  pub room : ℕ
   pub at : ℕ
   pub cause : Error
   pub first : refusal_among (refusal_of names.refusal_of v.kind room changes) changes v.records ≡ Some (Refused at cause)
   pub fault_is : fault ≡ change_fault at cause
 
--- the first fault by which the rows make nothing of a value
-abbrev pub IsUnmade : Kind → List ℕ → List Row → Fault → Contents → Type 0
-IsUnmade kind paths rows fault v =
-    HasFallenEntry fault v ⊎ HasUnfitChange kind paths rows fault v ⊎ HasRefusedChange kind paths rows fault v
+-- the first fault by which the rows make nothing of a value, over a storage of paths of so many bytes
+abbrev pub IsUnmade : Kind → List ℕ → List Row → ℕ → Fault → Contents → Type 0
+IsUnmade kind paths rows room fault v =
+    HasFallenEntry fault v ⊎ HasUnfitChange kind paths rows fault v ⊎ HasRefusedChange kind paths rows room fault v
 
 -- why they make nothing of it; want of memory says nothing
-abbrev pub MakesNothing : Kind → List ℕ → List Row → Contents → Unwritten → Type 0
-MakesNothing kind paths rows v (unwritten.NoRoom told) = ⊥
-MakesNothing kind paths rows v (unwritten.Refused fault) = IsUnmade kind paths rows fault v
-MakesNothing kind paths rows v unwritten.Memory = Unit {0}
+abbrev pub MakesNothing : Kind → List ℕ → List Row → ℕ → Contents → Unwritten → Type 0
+MakesNothing kind paths rows room v (unwritten.NoRoom told) = ⊥
+MakesNothing kind paths rows room v (unwritten.Refused fault) = IsUnmade kind paths rows room fault v
+MakesNothing kind paths rows room v unwritten.Memory = Unit {0}
 
 -- entries out of order are told so, and want of memory to name them as that
 abbrev pub order_told : OrderError → Unwritten
@@ -87,7 +87,7 @@ order_told orders.Memory = unwritten.Memory
 -- the first fault by which nothing is written in place of the index of these bytes, joined to the shared one
 abbrev pub IsUnupdated : Kind → List ℕ → List ℕ → List ℕ → List Row → Fault → Type 0
 IsUnupdated kind bytes shared paths rows fault =
-    AreReadSo false kind bytes shared (IsUnmade kind paths rows fault)
+    AreReadSo false kind bytes shared (λ v. (room : ℕ) × IsUnmade kind paths rows room fault v)
     ⊎ Updates kind bytes shared paths rows (IsUnwritableKept fault)
 
 -- ---- what is answered

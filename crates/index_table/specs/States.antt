@@ -1,5 +1,5 @@
 -- What a call that reads a state answers, and what one that changes it leaves (the library's own).
-use Rattle.std.specs.Prelude.{◌≡◌, ℕ, ◌++◌, Bool, false, List, Option, Ok, Result, IfErr, IfOk, OnOk, MatchOption}
+use Rattle.std.specs.Prelude.{◌≡◌, ℕ, ◌++◌, Bool, false, List, length, Option, Ok, Result, IfErr, IfOk, OnOk, MatchOption}
 use Rattle.gix_index.specs.Contents.{Contents}
 use Rattle.gix_index.specs.Edits.{refit, with_cached_tree}
 use Rattle.gix_index.specs.EntryImage.{written}
@@ -7,7 +7,7 @@ use Rattle.gix_index.specs.FileFaults.ReadError.{Error as ReadError}
 use Rattle.gix_index.specs.Kind.{Kind}
 use Rattle.gix_index.specs.Link.{LinkValue}
 use Rattle.gix_index.specs.ObjectId.{ObjectId}
-use Rattle.gix_index.specs.State.{PathsInStorage, contents, records}
+use Rattle.gix_index.specs.State.{PathsInStorage, contents, records, storage_of}
 use Rattle.gix_index.specs.StateType.{State}
 use Rattle.gix_index.specs.Storable.{IsStorable}
 use Rattle.index_table.specs.Joining.{AreReadSo, FailBoth, FailsJoined, IsJoinedBy}
@@ -68,5 +68,6 @@ PutsTreeAnew v w = MatchOption v.extensions.tree (w ≡ v) (λ t. w ≡ with_cac
 -- all changes that rows say are made of a state whose paths lie in storage, or none, and then why
 pub record MakesChanges (kind : Kind) (paths : List ℕ) (rows : List Row) (old new : State)
     (r : Result (Unit {0}) Unwritten) : Type 0 where
-  pub changed : OnOk r (PathsInStorage old → IsChangedBy kind paths rows (contents old) (contents new))
-  pub why : IfErr r (MakesNothing kind paths rows (contents old))
+  pub changed : OnOk r (PathsInStorage old
+      → IsChangedBy kind paths rows (length (storage_of old)) (contents old) (contents new))
+  pub why : IfErr r (MakesNothing kind paths rows (length (storage_of old)) (contents old))

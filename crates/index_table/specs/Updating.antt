@@ -50,13 +50,14 @@ abbrev pub AreSaidBy : List ℕ → List Row → List Change → Type 0
 AreSaidBy paths rows cs = map change_value cs ≡ map (change_said paths) rows
 
 -- The value's entries are in order, and each row that isn't marked REMOVE can stand in its file. The rows say changes,
--- of which none is refused, by the names that git lets stand in a path; and they make the other value of this one.
-pub record IsChangedBy (kind : Kind) (paths : List ℕ) (rows : List Row) (before value : Contents) : Type 0 where
+-- of which none is refused, by the names that git lets stand in a path, over a storage of paths of so many bytes; and
+-- they make the other value of this one.
+pub record IsChangedBy (kind : Kind) (paths : List ℕ) (rows : List Row) (room : ℕ) (before value : Contents)
+    : Type 0 where
   pub ordered : IsStrictlyOrdered before.records
   pub fit : All (IsFit kind before.extensions.sparse paths) rows
   pub changes : List Change
   pub said : AreSaidBy paths rows changes
-  pub room : ℕ
   pub granted : refusal_among (refusal_of names.refusal_of before.kind room changes) changes before.records ≡ None
   pub is : value ≡ updated changes before
   pub applied : IsAppliedTo changes before.records value.records
@@ -89,7 +90,8 @@ IsUnwritableKept fault v = IsUnwritable (kept_options v.version) fault v
 pub record MakesOf (kind : Kind) (paths : List ℕ) (rows : List Row) (P : Contents → Type 0) (before : Contents)
     : Type 0 where
   pub value : Contents
-  pub changed : IsChangedBy kind paths rows before value
+  pub room : ℕ
+  pub changed : IsChangedBy kind paths rows room before value
   pub holds : P value
 
 -- the bytes and those of the shared index are read as a value, and this holds of what the rows make of it

@@ -6,7 +6,7 @@ ghost use Rattle.index_cached_tree.specs.Tree.{node_of};
 ghost use Rattle.index_entries.specs.EntryImage.{written};
 ghost use Rattle.index_extension_list.specs.Chosen.{extensions_of};
 ghost use Rattle.index_format.specs.Contents.{parts_contents};
-ghost use Rattle.index_format.specs.Image.{chosen};
+ghost use Rattle.index_format.specs.Image.{chosen, fits_written};
 ghost use Rattle.index_format.specs.Kept.{cache_with_names, kept, monitor_within, tree_and_mark, where_fit};
 ghost use Rattle.index_format.specs.Outcome.{outcome_of};
 ghost use Rattle.index_small_extensions.specs.FsMonitor.{monitor_of};
@@ -97,13 +97,25 @@ fn tree_and_mark(outcome: &Outcome, asked: bool) -> Chosen<'_>
     }
 }
 
+/// Whether what speaks of the list of entries fits those that are written, so many: it fits all, and none is left out.
+fn fits_written(parts: &Parts, count: u32) -> bool
+    requires { count ≡ length (written (parts_contents parts.now).records) }
+    ensures { result ≡ fits_written (parts_contents parts.now) }
+{
+    parts.extensions_fit && count as usize == parts.entries.len()
+}
+
 /// The extensions that the options choose, beside so many entries that are written.
 pub(super) fn chosen_of(parts: &Parts, options: Options, count: u32) -> Chosen<'_>
     requires { count ≡ length (written (parts_contents parts.now).records) }
     ensures { extensions_of result ≡ chosen (parts_contents parts.now) options }
 {
     if options.extensions.is_kept() {
-        return kept(&parts.extensions, parts.extensions_fit, count as usize);
+        return kept(
+            &parts.extensions,
+            fits_written(parts, count),
+            count as usize,
+        );
     }
     let asked = options.extensions.should_write(tree::SIGNATURE).is_some();
     tree_and_mark(&parts.extensions, asked)

@@ -2,8 +2,10 @@
 
 ghost use Rattle.std.specs.Prelude.{◌≡◌, IfOk};
 
+use crate::objects::check_of;
 use crate::trees::tree_of;
-use gix_index::entry::{FileTime, Flags};
+use gix_index::decode::entry::Pathless;
+use gix_index::entry::{FileTime, Flags, Mode, Stat};
 use gix_index::extension::tree::write::Error;
 use gix_index::extension::{Tree, end_of_index_entry, sparse};
 use gix_index::hash::Kind;
@@ -13,6 +15,7 @@ use gix_index::{BitFlags as _, File, State, decode};
 use std::alloc::Global;
 use std::path::PathBuf;
 use test_row_kit::show::{Bytes, OrNone, version_of};
+use test_row_kit::words::id_of;
 use test_row_kit::{Fault, Lines, Words, refusal};
 
 /// `image`, and `image4` in version 4: the file that is written of a state, after as many times that it was written and
@@ -42,6 +45,9 @@ pub fn image(
     if words.has("tree") {
         set_tree(&mut state, tree_of(kind, words)?)?;
     }
+    if words.has("staged") {
+        stage_removed(&mut state, kind, words)?;
+    }
     for _ in 0..times {
         state = rewritten(out.alloc(), kind, state, options)?;
     }
@@ -63,6 +69,21 @@ fn set_tree(state: &mut State, made: Tree) -> Result<(), Fault> {
     };
     *tree = made;
     Ok(())
+}
+
+/// Stages an entry that a file leaves out: a plain file with an id of bytes 11.
+fn stage_removed(state: &mut State, kind: Kind, words: &mut Words<'_>) -> Result<(), Fault> {
+    let path = words.text()?;
+    let entry = Pathless {
+        stat: Stat::default(),
+        id: id_of(words.alloc(), kind, "11")?,
+        flags: Flags::REMOVE,
+        mode: Mode::FILE,
+    };
+    match state.stage(&check_of(words)?, entry, &path) {
+        Ok(_) => Ok(()),
+        Err(_) => Err(Fault::Wrong("a path at which an entry can be staged")),
+    }
 }
 
 fn has_null_trailer(word: &str) -> Result<bool, Fault> {

@@ -50,7 +50,7 @@ impl State {
         self.parts.extensions.link.as_ref()
     }
 
-    /// Takes the link out, and leaves none. All else stays.
+    /// Takes the link out, and leaves none. All else stays, and so does whether the extensions fit.
     pub fn take_link(&mut self) -> Option<Link>
         ensures { Takes (option_map link_of result) (λ o. o.link) without_link self.old self.new }
     {
@@ -93,9 +93,11 @@ impl State {
     }
 
     /// Whether the extensions speak of these entries: the cached tree, the untracked cache, and what a file system monitor
-    /// said. True of a state that was read or newly made; false behind an edit of entries that doesn't keep them:
-    /// [`Extensions::Kept`](index_format::write::Extensions::Kept) leaves these three out then. A cached tree that is put
-    /// in by [`set_tree`](State::set_tree) makes it true.
+    /// said. True of a state that was read or newly made. False of a split index that was read alone, whose extensions
+    /// speak of the shared index's entries too, unless its link has a null id; a merge by the link's bitmaps makes it
+    /// true. False behind an edit of entries that doesn't keep the three:
+    /// [`Extensions::Kept`](index_format::write::Extensions::Kept) leaves them out then. A cached tree that is put in by
+    /// [`set_tree`](State::set_tree) makes it true.
     pub fn extensions_fit(&self) -> bool
         ensures { result ≡ (contents self.now).fit }
     {

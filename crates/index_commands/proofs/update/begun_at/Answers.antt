@@ -4,7 +4,7 @@ use Rattle.std.proofs.lemmas.Result.{IfOk-weaker}
 use Rattle.gix_index.specs.File.{checksum_of}
 use Rattle.gix_index.specs.State.{contents}
 use Rattle.gix_index.specs.StateType.{State}
-use Rattle.index_commands.specs.Updating.{empty, there}
+use Rattle.index_commands.specs.Updated.{empty, there}
 use Rattle.index_commands.proofs.update.begun_at.Goals as goal
 
 pub returns-in-Err : goal.returns-in-Err

@@ -1,11 +1,11 @@
-use Rattle.std.proofs.Common.{◌≡◌, ◌∙◌, List, ap, arith, length, map, refl, subst, sym}
+use Rattle.std.proofs.Common.{◌≡◌, ◌∙◌, List, ap, arith, map, refl, subst, sym}
 use Rattle.std.proofs.lemmas.Grind.{common_steps}
 use Rattle.gix_index.specs.Changing.Change.{Change}
-use Rattle.gix_index.specs.State.{contents, storage_of}
+use Rattle.gix_index.specs.State.{contents}
 use Rattle.index_info.specs.Line.{ChangeValue}
 use Rattle.index_info.specs.Text.{AreSaid, change_value, line_value}
 use Rattle.index_info.specs.declared.line.Line.{Line}
-use Rattle.index_commands.specs.Updating.{IsTimed}
+use Rattle.index_commands.specs.Updated.{IsTimed}
 use Rattle.index_commands.proofs.Updated.{granted_among, refused_among}
 use Rattle.index_commands.proofs.update.change.Goals as goal
 
@@ -20,7 +20,6 @@ returns-in-Ok-apply c =
         changes = c.deref-2.result.now;
         said = subst (λ (vs : List ChangeValue). AreSaid c.args.nul c.args.kind c.args.text.now vs) (sym same)
             c.in-Ok.ensures.said;
-        room = length (storage_of c.args.state.now);
         changed = contents c.apply.new.self;
         granted = granted_among _ c.deref-2.result.now (contents c.args.state.now).records c.requires _
             c.in-Ok-apply.ensures.reason;
@@ -48,8 +47,6 @@ returns-in-Err-Refused c =
           changes = c.deref-2.result.now;
           said = subst (λ (vs : List ChangeValue). AreSaid c.args.nul c.args.kind c.args.text.now vs) (sym same)
               c.in-Ok.ensures.said;
-          of = (contents c.args.state.now).kind;
-          room = length (storage_of c.args.state.now);
           is = refused_among _ c.deref-2.result.now (contents c.args.state.now).records c.requires c.in-Err-Refused.at
               c.in-Err-Refused.cause reason;
         },

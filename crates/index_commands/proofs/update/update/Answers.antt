@@ -10,7 +10,8 @@ use Rattle.index_failures.specs.Storing as storing
 use Rattle.index_failures.proofs.Replaced.{replaced_on_ok, unwritten_on_err}
 use Rattle.index_failures.proofs.Restored.{restored_so, restores, restores_unmade}
 use Rattle.index_commands.specs.Rewriting.{chosen, chosen_options}
-use Rattle.index_commands.specs.Updating.{FailsToUpdate, IsUpdatedIn}
+use Rattle.index_commands.specs.Updated.{IsUpdatedIn}
+use Rattle.index_commands.specs.Updating.{FailsToUpdate}
 use Rattle.index_commands.specs.declared.rewrite.Form.TheVariants.{AsRead}
 use Rattle.index_commands.proofs.update.update.Goals as goal
 

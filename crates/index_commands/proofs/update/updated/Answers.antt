@@ -1,10 +1,11 @@
-use Rattle.std.proofs.Common.{ap, refl, subst, sym, ◌∙◌}
+use Rattle.std.proofs.Common.{ap, length, refl, subst, sym, ◌∙◌}
 use Rattle.std.proofs.lemmas.Result.{err_from_is_err_and}
 use Rattle.gix_index.specs.File.{state_of}
 use Rattle.gix_index.specs.SoundState.{SaysFall}
-use Rattle.gix_index.specs.State.{PathsInStorage, contents}
+use Rattle.gix_index.specs.State.{PathsInStorage, contents, storage_of}
 use Rattle.gix_index.specs.StateType.{State}
-use Rattle.index_commands.specs.Updating.{IsOfText, IsUpdatedBy, refused, unordered}
+use Rattle.index_commands.specs.Updated.{IsUpdatedBy}
+use Rattle.index_commands.specs.Updating.{refused, unordered}
 use Rattle.index_commands.proofs.update.updated.Goals as goal
 
 pub returns : goal.returns
@@ -14,8 +15,9 @@ returns g c = record {
     begun = c.in_ok-index.ensures.read;
     text = c.in_ok-text.text.items;
     held = c.in_ok-text.ensures.held;
+    room = length (storage_of (state_of c.in_ok-index.index));
     updated = subst (λ (s : State). IsUpdatedBy c.args.nul c.args.kind c.in_ok-text.text.items
-        (contents (state_of c.in_ok-index.index)) (contents s)) (sym c.from_state.ensures.state)
+        (length (storage_of (state_of c.in_ok-index.index))) (contents (state_of c.in_ok-index.index)) (contents s)) (sym c.from_state.ensures.state)
         ((rw (c.deref-2.ensures.value, c.into_parts-state.ensures.state) at c.in_ok-change.ensures.updated)
         c.in_ok-index.ensures.placed);
   };
@@ -51,6 +53,7 @@ returns-in_err-change g c =
         begun = c.in_ok-index.ensures.read;
         text = c.in_ok-text.text.items;
         held = c.in_ok-text.ensures.held;
+        room = length (storage_of (state_of c.in_ok-index.index));
         is = rw (c.deref-2.ensures.value, c.into_parts-state.ensures.state) at c.in_err-change.ensures.fault;
       });
     })

@@ -11,9 +11,11 @@ pub returns-in-Err : goal.returns-in-Err
 returns-in-Err c =
     record {
       changed = search rules;
-      why = subst (MakesNothing c.args.kind c.args.paths.now c.args.rows.now (contents c.args.state.now))
+      why = subst (MakesNothing c.args.kind c.args.paths.now c.args.rows.now (length (storage_of c.args.state.now))
+          (contents c.args.state.now))
           (sym c.unordered.ensures)
-          (fallen c.args.kind c.args.paths.now c.args.rows.now (contents c.args.state.now) c.in-Err.e
+          (fallen c.args.kind c.args.paths.now c.args.rows.now (length (storage_of c.args.state.now))
+          (contents c.args.state.now) c.in-Err.e
           c.in-Err.ensures.fault);
     }
 
@@ -29,7 +31,6 @@ returns-in-Ok-apply c =
             said = subst (λ (cs : List Change). AreSaidBy c.args.paths.now c.args.rows.now cs) (sym
                 c.deref.ensures.value)
                 c.in-Ok.ensures;
-            room = length (storage_of c.args.state.now);
             granted = granted_among _ c.deref.result.now (contents c.args.state.now).records ordered _
                 c.in-Ok-apply.ensures.reason;
             is = c.in-Ok-apply.ensures.updated placed ordered;
@@ -50,7 +51,6 @@ returns-in-Err-Refused c =
             said = subst (λ (cs : List Change). AreSaidBy c.args.paths.now c.args.rows.now cs) (sym
                 c.deref.ensures.value)
                 c.in-Ok.ensures;
-            room = length (storage_of c.args.state.now);
             at = c.in-Err-Refused.at;
             cause = c.in-Err-Refused.cause;
             first = refused_among _ c.deref.result.now (contents c.args.state.now).records ordered c.in-Err-Refused.at

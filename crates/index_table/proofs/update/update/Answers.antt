@@ -1,7 +1,7 @@
-use Rattle.std.proofs.Common.{◌∙◌, Err, None, ap, false, inl, inr, subst, rules}
+use Rattle.std.proofs.Common.{◌∙◌, ℕ, Err, None, ap, false, inl, inr, length, subst, rules}
 use Rattle.std.proofs.lemmas.Result.{IfOk-weaker}
 use Rattle.gix_index.specs.Contents.{Contents}
-use Rattle.gix_index.specs.State.{contents}
+use Rattle.gix_index.specs.State.{contents, storage_of}
 use Rattle.gix_index.specs.WriteOptions.{Options}
 use Rattle.index_table.specs.Refusing.{IsUnmade, IsUnupdated}
 use Rattle.index_table.specs.Updating.{HasKeptImage, IsUnwritableKept, PassesRoomKept, Updates, kept_options}
@@ -19,12 +19,14 @@ returns-in-Err-make_changes c =
     record {
       done = search rules;
       refused = let before = contents c.in-Ok.state in
+          let room : ℕ = length (storage_of c.in-Ok.state) in
           refused_weaker (Err c.in-Err-make_changes.e) (λ (x : Fault). IsUnmade c.args.kind c.args.paths.now
-          c.args.rows.now x before)
+          c.args.rows.now room x before)
           (IsUnupdated c.args.kind c.args.index.now c.args.shared.now c.args.paths.now c.args.rows.now)
           (λ x h. inl (read_so false c.args.kind c.args.index.now c.args.shared.now
-          (IsUnmade c.args.kind c.args.paths.now c.args.rows.now x) before c.in-Ok.ensures.read h))
-          (none_made c.args.kind c.args.paths.now c.args.rows.now before c.in-Err-make_changes.e
+          (λ (v : Contents). (n : ℕ) × IsUnmade c.args.kind c.args.paths.now c.args.rows.now n x v) before
+          c.in-Ok.ensures.read (room, h)))
+          (none_made c.args.kind c.args.paths.now c.args.rows.now room before c.in-Err-make_changes.e
           c.in-Err-make_changes.ensures.why);
       memory = let h = c.in-Ok.ensures.read in
           unwritten_of (Err c.in-Err-make_changes.e) _ (lacks_from None false c.args.kind c.args.index.now h.value
@@ -45,7 +47,8 @@ returns c =
           IfOk-weaker c.put_state.result (λ (x : Image). Holds c.kept_options-options.result x value)
           (λ (x : Image). Updates c.args.kind c.args.index.now c.args.shared.now c.args.paths.now c.args.rows.now
           (HasKeptImage x c.args.room.now c.put_state.new.room))
-          (λ x h. made c.args.kind c.args.index.now c.args.shared.now c.args.paths.now c.args.rows.now before value
+          (λ x h. made c.args.kind c.args.index.now c.args.shared.now c.args.paths.now c.args.rows.now
+          (length (storage_of c.in-Ok.state)) before value
           (HasKeptImage x c.args.room.now c.put_state.new.room) c.in-Ok.ensures.read (c.in_default.ensures.changed c.in-Ok.ensures.placed)
           (subst (λ (o : Options). Holds o x value) (c.kept_options-options.ensures ∙ ap kept_options
           c.version.ensures) h))
@@ -55,8 +58,8 @@ returns c =
           let Holds : Options → Fault → Contents → Type 0 = λ options x. IsUnwritable options x in
           refused_weaker c.put_state.result (λ (x : Fault). Holds c.kept_options-options.result x value)
           (IsUnupdated c.args.kind c.args.index.now c.args.shared.now c.args.paths.now c.args.rows.now)
-          (λ x h. inr (made c.args.kind c.args.index.now c.args.shared.now c.args.paths.now c.args.rows.now before
-          value
+          (λ x h. inr (made c.args.kind c.args.index.now c.args.shared.now c.args.paths.now c.args.rows.now
+          (length (storage_of c.in-Ok.state)) before value
           (IsUnwritableKept x) c.in-Ok.ensures.read (c.in_default.ensures.changed c.in-Ok.ensures.placed)
           (subst (λ (o : Options). Holds o x value) (c.kept_options-options.ensures ∙ ap kept_options
           c.version.ensures) h)))
@@ -70,7 +73,8 @@ returns c =
           passed_weaker c.put_state.result (λ (x : Image). Holds c.kept_options-options.result x value)
           (λ (x : Image). Updates c.args.kind c.args.index.now c.args.shared.now c.args.paths.now c.args.rows.now
           (PassesRoomKept x c.args.room.now))
-          (λ x h. made c.args.kind c.args.index.now c.args.shared.now c.args.paths.now c.args.rows.now before value
+          (λ x h. made c.args.kind c.args.index.now c.args.shared.now c.args.paths.now c.args.rows.now
+          (length (storage_of c.in-Ok.state)) before value
           (PassesRoomKept x c.args.room.now) c.in-Ok.ensures.read (c.in_default.ensures.changed c.in-Ok.ensures.placed)
           (subst (λ (o : Options). Holds o x value) (c.kept_options-options.ensures ∙ ap kept_options
           c.version.ensures) h))
