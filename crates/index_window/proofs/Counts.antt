@@ -23,14 +23,18 @@ came : (now next : Option (List ℕ)) (n piece : List ℕ) (before len count tot
     → (m : List ℕ) × (next ≡ Some m) × ((len + count) + length m ≡ total)
 came None next n piece before len count total is sum c long = absurd cc
 came (Some x) None n piece before len count total is sum c long = absurd c
-came (Some x) (Some m) n piece before len count total is sum c long = (m, refl, omega (
-  arith,
-  sum,
-  long,
-  ap length c,
-  length-append piece m,
-  ap (λ (o : Option (List ℕ)). some_len o) is,
-))
+came (Some x) (Some m) n piece before len count total is sum c long = (
+  m,
+  refl,
+  omega (
+    arith,
+    sum,
+    long,
+    ap length c,
+    length-append piece m,
+    ap (λ (o : Option (List ℕ)). some_len o) is,
+  ),
+)
   where
     some_len : Option (List ℕ) → ℕ
     some_len None = 0
