@@ -63,7 +63,7 @@ COMMANDS = (
         "Name each part of the file, up to its first fault", LINES,
     ),
     Command("map-svg", False, "draws these parts to scale, as a picture in SVG", "Draw these parts as a picture (SVG)"),
-    Command("show", False, "prints all that FILE holds, but extensions that aren't known", "Show all that the file holds"),
+    Command("show", False, "prints all that FILE holds, but unknown or malformed extensions", "Show all that the file holds"),
     Command("show-json", False, "prints the same as one JSON object", "Show the same as JSON"),
     Command(
         "trees", False, "prints id, entry count and path of each directory, as `git write-tree` makes them",

@@ -15,7 +15,7 @@ complete -c index-tool -n __fish_use_subcommand -a check -d 'prints ok where ent
 complete -c index-tool -n __fish_use_subcommand -a check-trees -d 'prints ok where all that is so, and the cached tree fits the entries too'
 complete -c index-tool -n __fish_use_subcommand -a map -d 'prints offset, length and name of each part of FILE, up to its first fault'
 complete -c index-tool -n __fish_use_subcommand -a map-svg -d 'draws these parts to scale, as a picture in SVG'
-complete -c index-tool -n __fish_use_subcommand -a show -d 'prints all that FILE holds, but extensions that aren’t known'
+complete -c index-tool -n __fish_use_subcommand -a show -d 'prints all that FILE holds, but unknown or malformed extensions'
 complete -c index-tool -n __fish_use_subcommand -a show-json -d 'prints the same as one JSON object'
 complete -c index-tool -n __fish_use_subcommand -a trees -d 'prints id, entry count and path of each directory, as git write-tree makes them'
 complete -c index-tool -n __fish_use_subcommand -a rewrite -d 'writes OUT anew, with TREE, sdir and an end marker: in version 2, or 3 where flags ask for it'

@@ -1,4 +1,5 @@
-//! Laws of edits of an index: what its checks ask of it stays true. A law computes nothing.
+//! Laws of edits of an index by changes, as `State::{stage, resolve, unstage, apply}` make them: what its checks ask of it
+//! stays true. Removals, sorts, pushes and loans are no such edits. A law computes nothing.
 #![tactic(auto)]
 
 ghost use Rattle.std.specs.Prelude.{◌≡◌, ℕ, ◌+◌, ◌^◌, ◌<◌, ◌≤◌, List, All, IfSome, length, None};

@@ -59,7 +59,7 @@ split_folder folder cs up =
     split_by paths_total (λ (c : Change). take n (path_of c)) (folder ++ 47 ∷ []) cs
     (λ i j d before within. prefixes_rise n _ _ (never_fall cs up i j d before within))
 
-lies_is : (folder path : List ℕ) → is_eq (prefix_cmp (folder ++ 47 ∷ []) path) ≡ lies_in folder path
+pub lies_is : (folder path : List ℕ) → is_eq (prefix_cmp (folder ++ 47 ∷ []) path) ≡ lies_in folder path
 lies_is folder path =
     let prefix = folder ++ 47 ∷ [] in
     sym (texts_ties (take (length prefix) path) prefix) ∙ nat_list_eq_equiv.symm (take (length prefix) path) prefix

@@ -1,8 +1,8 @@
 //! Changes in the order of their paths, where the order makes no difference.
 
-ghost use Rattle.std.specs.Prelude.{◌≡◌, IsNone, ◌++◌, ◌∷◌, [], IfOk, IfSome, IsTrue, map};
+ghost use Rattle.std.specs.Prelude.{◌≡◌, IsNone, ◌++◌, ◌∷◌, [], IfOk, IfSome, IsTrue, map, true};
 ghost use Rattle.index_edits.specs.Changes.{path_of};
-ghost use Rattle.index_edits.specs.Reorders.{AreInOrder, IsReorderedTo, StayAsTheyAre, are_nested};
+ghost use Rattle.index_edits.specs.Reorders.{AreInOrder, IsReorderedTo, StayAsTheyAre, are_nested, lies_in};
 ghost use Rattle.index_search.specs.Prefix.{prefix_cmp};
 
 use crate::change::Change;
@@ -50,6 +50,27 @@ fn are_nested(changes: &[Change<'_>]) -> bool
     false
 }
 
+/// Whether the path of one change lies in that of the other, as in a folder.
+fn is_below(change: &Change<'_>, other: &Change<'_>) -> bool
+    ensures { result ≡ lies_in (path_of other.now) (path_of change.now) }
+{
+    compare_pieces(change.path(), other.path(), b"/").is_eq()
+}
+
+/// Whether, of two changes that follow each other, the path of one is a folder that the other's lies in.
+fn are_adjacent_nested(changes: &[Change<'_>]) -> bool
+    ensures { IsTrue result → are_nested changes.now ≡ true }
+{
+    for place in 1..changes.len() {
+        let before = &changes[place - 1];
+        let change = &changes[place];
+        if is_below(before, change) || is_below(change, before) {
+            return true;
+        }
+    }
+    false
+}
+
 /// Whether the paths never fall.
 fn are_in_order(changes: &[Change<'_>]) -> bool
     ensures { IsTrue result → AreInOrder changes.now }
@@ -67,7 +88,7 @@ pub fn in_order<'a>(
     ensures same { IfOk result (λ made. IfSome made (λ ds. IsReorderedTo changes.now ds.items)) }
     ensures none { IfOk result (λ made. IsNone made → StayAsTheyAre changes.now) }
 {
-    if are_in_order(changes) {
+    if are_in_order(changes) || are_adjacent_nested(changes) {
         return Ok(None);
     }
     let mut ordered = Vec::with_capacity(alloc, changes.len())?;

@@ -1,3 +1,4 @@
+mod Headed
 pub mod Readings
 pub mod Replaced
 pub mod Restored

@@ -1,10 +1,17 @@
 -- What each call answers that reads a file, or locks or writes one, of a folder (the program's own).
-use Rattle.std.specs.Prelude.{◌≡◌, ◌++◌, ℕ, [], List, Option, Some, true, codes, Result, IfErr, IfOk, OnErr, OnOk}
+use Rattle.std.specs.Prelude.{◌≡◌, ◌++◌, ℕ, [], List, Option, Some, true, codes, Result, Err, IfErr, IfOk, OnErr, OnOk}
 use Rattle.std.specs.Global.{Vec}
+use Rattle.std.specs.Path.{path_bytes}
+use Rattle.std.specs.declared.io.Error.{Error as IoError}
+use Rattle.std.specs.declared.path.Path.{Path}
+use Rattle.gix_index.specs.DecodeError.TheVariants as decoding
 use Rattle.gix_index.specs.Disk.{MayHave, disk_at}
-use Rattle.gix_index.specs.Disk.World.{MayBe}
+use Rattle.gix_index.specs.Disk.World.{Known, MayBe}
 use Rattle.gix_index.specs.File.{checksum_of, path_of, state_of}
 use Rattle.gix_index.specs.FileTime.{FileTime}
+use Rattle.gix_index.specs.Header.{header_of}
+use Rattle.gix_index.specs.HeaderError.{Header}
+use Rattle.gix_index.specs.HeaderErrors.{header_fault}
 use Rattle.gix_index.specs.InPlace.{IsPutSince}
 use Rattle.gix_index.specs.InPlace.Locks.{IsReleased, asked_of, lock_of, target_of}
 use Rattle.gix_index.specs.Kind.{Kind}
@@ -15,9 +22,11 @@ use Rattle.gix_index.specs.declared.file.File.{File}
 use Rattle.gix_index.specs.OnDisk.FolderTrait.{Ghosts}
 use Rattle.gix_index.specs.InPlace.Lock.{Lock}
 use Rattle.index_failures.specs.declared.failure.Failure.{Failure}
-use Rattle.gix_index.specs.OnDisk.Folders.{KeepsManner}
-use Rattle.index_failures.specs.Reading.{FailsReading, IsInFile, IsInFileSince, SaysOfBytes, SaysOfIndex}
+use Rattle.gix_index.specs.OnDisk.Folders.{FailsAt, KeepsManner}
+use Rattle.index_failures.specs.Reading.{FailsReading, IsInFile, IsInFileSince, SaysOfBytes, SaysOfHeaded, SaysOfIndex}
 use Rattle.index_failures.specs.Storing.{FailsCommitting, FailsLocking, IsUnderLock}
+use Rattle.index_window.specs.declared.disk.WholeFile.{WholeFile}
+use Rattle.index_window.specs.declared.disk.WholeFile.TheVariants as whole
 
 -- ---- what is read
 
@@ -27,6 +36,27 @@ pub record ReadsBytes {S F M : Type 0} (folder : Ghosts S F M) (now : S) (path :
   pub held : IfOk answer (λ read. MayHave (folder.known now path) read.0.items)
   pub since : IfOk answer (λ read. MayBe (folder.known now path) (λ file. read.1 ≡ file.time))
   pub fault : IfErr answer (FailsReading (SaysOfBytes (folder.works now) (folder.known now) path) path)
+
+-- all bytes of a file of which this is known, or the fault of their header
+abbrev pub IsWholeOf : Known → Kind → WholeFile → Type 0
+IsWholeOf known kind (whole.Held bytes digest) = MayHave known bytes.items
+IsWholeOf known kind (whole.Refused e) = (bytes : List ℕ) × MayHave known bytes
+    × ((fault : Header) × (header_of kind bytes ≡ Err (header_fault fault)) × (e ≡ decoding.Header fault))
+
+-- these of the file at a path, and when it was changed last
+pub record ReadsWholeAt {S F M : Type 0} (folder : Ghosts S F M) (now : S) (kind : Kind) (path : Path)
+    (result : Result (WholeFile × FileTime) IoError) : Type 0 where
+  pub read : IfOk result (λ read. IsWholeOf (folder.known now (path_bytes path)) kind read.0)
+  pub since : IfOk result (λ read. MayBe (folder.known now (path_bytes path)) (λ file. read.1 ≡ file.time))
+  pub fault : FailsAt folder now path result
+
+-- the bytes of the file at a path, and when it was changed last; or why they can't be had, or what is wrong with their
+-- header
+pub record ReadsHeaded {S F M : Type 0} (folder : Ghosts S F M) (now : S) (kind : Kind) (path : List ℕ)
+    (answer : Result (Vec ℕ × FileTime) Failure) : Type 0 where
+  pub held : IfOk answer (λ read. MayHave (folder.known now path) read.0.items)
+  pub since : IfOk answer (λ read. MayBe (folder.known now path) (λ file. read.1 ≡ file.time))
+  pub fault : IfErr answer (FailsReading (SaysOfHeaded (folder.works now) (folder.known now) kind path) path)
 
 -- the index in the file at a path can't be read, for what the failure says
 abbrev pub FailsToRead : {S F M : Type 0} → Ghosts S F M → S → Kind → List ℕ → Failure → Type 0

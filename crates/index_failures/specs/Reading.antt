@@ -1,13 +1,16 @@
 -- What the program reads in a file, and how that fails (the program's own).
-use Rattle.std.specs.Prelude.{◌≡◌, ℕ, Bool, true, false, List, Option}
+use Rattle.std.specs.Prelude.{◌≡◌, ℕ, Bool, true, false, List, Option, Err}
 use Rattle.std.specs.Borrow.{Bor}
 use Rattle.std.specs.declared.io.Error.{Error as IoError}
-use Rattle.gix_index.specs.Disk.{Disk, disk_at}
+use Rattle.gix_index.specs.DecodeError.TheVariants as decoding
+use Rattle.gix_index.specs.Disk.{Disk, MayHave, disk_at}
 use Rattle.gix_index.specs.Disk.World.{IsFaultOf, World}
 use Rattle.gix_index.specs.FileFaults.{IsOfFile, SaysOfFiles}
 use Rattle.gix_index.specs.FileFaults.ReadError.{Error as ReadFault}
 use Rattle.gix_index.specs.FileFaults.ReadError.TheVariants as reads
 use Rattle.gix_index.specs.FileTime.{FileTime}
+use Rattle.gix_index.specs.Header.{header_of}
+use Rattle.gix_index.specs.HeaderErrors.{header_fault}
 use Rattle.gix_index.specs.Kind.{Kind}
 use Rattle.gix_index.specs.ObjectId.{ObjectId}
 use Rattle.gix_index.specs.Contents.{Contents}
@@ -39,6 +42,15 @@ abbrev pub SaysOfBytes : Bool → World → List ℕ → ReadFault → Type 0
 SaysOfBytes works world path (reads.Io fault) = IsOfFile path works (world path) fault
 SaysOfBytes works world path reads.Memory = Unit {0}
 SaysOfBytes works world path e = ⊥
+
+-- the fault is why the bytes of an index can't be had of the file at a path: the same, or a fault of the header of its
+-- bytes
+abbrev pub SaysOfHeaded : Bool → World → Kind → List ℕ → ReadFault → Type 0
+SaysOfHeaded works world kind path (reads.Io fault) = IsOfFile path works (world path) fault
+SaysOfHeaded works world kind path (reads.Decode (decoding.Header e)) =
+    (bytes : List ℕ) × MayHave (world path) bytes × (header_of kind bytes ≡ Err (header_fault e))
+SaysOfHeaded works world kind path reads.Memory = Unit {0}
+SaysOfHeaded works world kind path e = ⊥
 
 -- whatever is known there, if this fault of the disk may come of it
 abbrev pub SaysOfAnyBytes : List ℕ → IoError → ReadFault → Type 0

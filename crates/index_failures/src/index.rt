@@ -3,19 +3,20 @@
 ghost use Rattle.std.specs.Prelude.{◌≡◌};
 ghost use Rattle.std.specs.Path.{path_buf_bytes};
 ghost use Rattle.gix_index.specs.FileFaults.ReadError.TheVariants.{Memory};
-ghost use Rattle.index_failures.specs.Calls.{OpensIndex, ReadsBytes, ReadsIndex};
+ghost use Rattle.index_failures.specs.Calls.{OpensIndex, ReadsBytes, ReadsHeaded, ReadsIndex, ReadsWholeAt};
 ghost use Rattle.index_failures.specs.Reading.{SaysOfAnyBytes, failure_of};
 
 use crate::failure::Failure;
 use gix_index::entry::FileTime;
 use gix_index::file::PathError;
-use gix_index::file::folder::Folder;
+use gix_index::file::folder::{Folder, Source};
 use gix_index::hash::Kind;
 use gix_index::{File, decode, file};
+use index_window::disk::{WholeFile, bytes_of};
 use std::alloc::Global;
 use std::io;
 use std::io::ErrorKind;
-use std::path::PathBuf;
+use std::path::{Path, PathBuf};
 
 /// Why there is no index to be had of a file.
 pub fn failure_of(path: &str, fault: file::init::Error) -> Failure<'_>
@@ -60,6 +61,41 @@ pub fn bytes_at<'a, D: Folder>(
     match file::bytes_at(folder, alloc, file.as_path()) {
         Ok(read) => Ok(read),
         Err(error) => Err(failure_of(path, fault_of(file, error))),
+    }
+}
+
+/// All bytes of the file at a path, or the fault of its header, whose bytes aren't held; and when it was changed last.
+fn whole_at<D: Folder>(
+    folder: &D,
+    alloc: Global,
+    kind: Kind,
+    path: Path<'_>,
+) -> io::Result<(WholeFile, FileTime)>
+    ensures { ReadsWholeAt D.Folder folder.now kind path.entry result }
+{
+    let file = folder.open(path)?;
+    let time = file.status()?.modified;
+    let read = bytes_of(alloc, file, kind, true)?;
+    Ok((read, time))
+}
+
+/// All bytes of the file at a path, and when it was changed last, as [`bytes_at`] has them. Of a file whose first bytes
+/// are no header none are held, and [`Failure::Index`] has the fault of that header. The digest isn't compared.
+pub fn headed_bytes_at<'a, D: Folder>(
+    folder: &D,
+    alloc: Global,
+    kind: Kind,
+    path: &'a str,
+) -> Result<(Vec<u8>, FileTime), Failure<'a>>
+    ensures { ReadsHeaded D.Folder folder.now kind path.now result }
+{
+    let Ok(file) = PathBuf::from_str(alloc, path) else {
+        return Err(out_of_memory(path));
+    };
+    match whole_at(folder, alloc, kind, file.as_path()) {
+        Ok((WholeFile::Held(bytes, _), time)) => Ok((bytes, time)),
+        Ok((WholeFile::Refused(e), _)) => Err(failure_of(path, file::init::Error::Decode(e))),
+        Err(fault) => Err(failure_of(path, fault_of(file, fault))),
     }
 }
 

@@ -37,10 +37,11 @@ pub record IsUntold (known : Known) : Type 0 where
   pub no_digest : IsKindOf bytes None
   pub signed : HasSignature bytes
 
--- the kind whose digest is the trailer of the file's bytes
+-- a file begins as an index, and its trailer is the digest of this kind
 pub record IsDigestKind (known : Known) (kind : Kind) : Type 0 where
   pub bytes : List ℕ
   pub held : MayHave known bytes
+  pub signed : HasSignature bytes
   pub is : IsKindOf bytes (Some kind)
 
 -- the kind by the trailer; else by the `config` beside the file
@@ -59,11 +60,10 @@ MayBeIrregular (Leads to) = Unit {0}
 MayBeIrregular Directory = Unit {0}
 MayBeIrregular Special = Unit {0}
 
--- a file of which no trailer is a digest, and whose first bytes are these
+-- the first four bytes of a file, or all if it has fewer
 pub record BeginsWith (known : Known) (start : List ℕ) : Type 0 where
   pub bytes : List ℕ
   pub held : MayHave known bytes
-  pub no_digest : IsKindOf bytes None
   pub starts : take 4 bytes ≡ start
 
 -- A fault of the disk, and no want of memory, for the file, or for the `config` beside it where the file doesn't tell.
@@ -93,10 +93,14 @@ SaysOfKind works world path errors.Memory = Unit {0}
 
 -- ---- what each look at a file answers
 
--- all bytes of the regular file at a path; none where it may be another
-pub record ReadsRegular {D F M : Type 0} (folder : Ghosts D F M) (now : D) (path : Path)
+-- all bytes of the regular file at a path, or the first ones of one that doesn't begin as an index; none where it may be
+-- another
+pub record ReadsSigned {D F M : Type 0} (folder : Ghosts D F M) (now : D) (path : Path)
     (result : Result (Option (Vec ℕ)) IoError) : Type 0 where
-  pub held : IfOk result (λ read. IfSome read (λ bytes. MayHave (folder.known now (path_bytes path)) bytes.items))
+  pub held : IfOk result (λ read. IfSome read
+      (λ bytes. HasSignature bytes.items → MayHave (folder.known now (path_bytes path)) bytes.items))
+  pub begins : IfOk result (λ read. IfSome read
+      (λ bytes. BeginsWith (folder.known now (path_bytes path)) (take 4 bytes.items)))
   pub irregular : IfOk result (λ read. IfNone read (MayBeIrregular (folder.known now (path_bytes path))))
   pub fault : FailsAt folder now path result
 

@@ -1,14 +1,15 @@
 //! Which kind of ids an index has.
 
 ghost use Rattle.std.specs.Prelude.{◌↔◌, IfErr, IfOk, IsTrue};
-ghost use Rattle.index_input.specs.Digests.{EndsWithDigest, IsKindOf};
-ghost use Rattle.index_input.specs.KindAt.{IsKindAt, ReadsConfig, ReadsRegular, SaysOfKind};
+ghost use Rattle.index_input.specs.Digests.{EndsWithDigest, HasSignature, IsKindOf};
+ghost use Rattle.index_input.specs.KindAt.{IsKindAt, ReadsConfig, ReadsSigned, SaysOfKind};
 
 use crate::config::format_of;
 use crate::error::{Error, FirstBytes};
 use gix_index::file::bytes_at;
 use gix_index::file::folder::{Folder, Source};
 use gix_index::hash::{Kind, digest};
+use index_folder::pieces::fill;
 use std::alloc::Global;
 use std::io;
 use std::io::ErrorKind;
@@ -41,22 +42,34 @@ pub fn kind_of(bytes: &[u8]) -> Option<Kind>
     }
 }
 
-/// All bytes of the file at a path; None where what is opened there is no regular file, of which nothing is taken. A
-/// folder is an error.
-fn regular_bytes<D: Folder>(
+/// Whether bytes begin with the signature of an index (gitformat-index, "The signature is { 'D', 'I', 'R', 'C' }").
+fn is_signed(bytes: &[u8]) -> bool
+    ensures { IsTrue result ↔ HasSignature bytes.now }
+{
+    bytes.starts_with(b"DIRC")
+}
+
+/// All bytes of the file at a path; of one without the signature of an index only the first four, or all if it has
+/// fewer. None where what is opened there is no regular file, of which nothing is taken. A folder is an error.
+fn signed_bytes<D: Folder>(
     folder: &D,
     alloc: Global,
     path: Path<'_>,
 ) -> io::Result<Option<Vec<u8>>>
-    ensures { ReadsRegular D.Folder folder.now path.entry result }
+    ensures { ReadsSigned D.Folder folder.now path.entry result }
 {
     let mut file = folder.open(path)?;
-    if file.status()?.is_plain {
-        let (bytes, _) = bytes_at(folder, alloc, path)?;
-        return Ok(Some(bytes));
+    if !file.status()?.is_plain {
+        file.read(&mut [])?;
+        return Ok(None);
     }
-    file.read(&mut [])?;
-    Ok(None)
+    let mut first = Vec::with_capacity(alloc, 4)?;
+    fill(&mut file, &mut first, 4)?;
+    if !is_signed(&first) {
+        return Ok(Some(first));
+    }
+    let (bytes, _) = bytes_at(folder, alloc, path)?;
+    Ok(Some(bytes))
 }
 
 /// The kind that the repository's `config` at a path says. None where it names another kind, or isn't there.
@@ -76,27 +89,27 @@ fn kind_in_config<D: Folder>(folder: &D, alloc: Global, path: Path<'_>) -> io::R
 /// the file is damaged, what the repository's `config` in the same folder says, as [`format_of`] reads it.
 ///
 /// [`Error::Io`] names the file that can't be opened or read, this one or the `config`. [`Error::NotRegular`]: it is a
-/// pipe or a device, and nothing was taken from it. [`Error::Empty`], [`Error::NoIndex`]: it isn't an index.
-/// [`Error::KindNotTold`]: no `config` is there, or it names another kind.
+/// pipe or a device, and nothing was taken from it. [`Error::Empty`], [`Error::NoIndex`]: it isn't an index, as its
+/// first bytes tell, and no more of it is held. [`Error::KindNotTold`]: no `config` is there, or it names another kind.
 pub fn kind_at<D: Folder>(folder: &D, alloc: Global, path: &str) -> Result<Kind, Error>
     ensures told { IfOk result (IsKindAt (D.known folder.now) path.now) }
     ensures fault { IfErr result (SaysOfKind (D.works folder.now) (D.known folder.now) path.now) }
 {
     let file = PathBuf::from_str(alloc, path)?;
-    let bytes = match regular_bytes(folder, alloc, file.as_path()) {
+    let bytes = match signed_bytes(folder, alloc, file.as_path()) {
         Ok(Some(bytes)) => bytes,
         Ok(None) => return Err(Error::NotRegular(file)),
         Err(e) => return Err(Error::of(file, e)),
     };
-    if let Some(kind) = kind_of(&bytes) {
-        return Ok(kind);
-    }
     if bytes.is_empty() {
         return Err(Error::Empty(file));
     }
-    if !bytes.starts_with(b"DIRC") {
+    if !is_signed(&bytes) {
         let start = FirstBytes::of(alloc, &bytes)?;
         return Err(Error::NoIndex { path: file, start });
+    }
+    if let Some(kind) = kind_of(&bytes) {
+        return Ok(kind);
     }
     drop(bytes);
     let config = file.with_file_name(alloc, "config")?;

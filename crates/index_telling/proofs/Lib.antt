@@ -1,4 +1,3 @@
 mod Mappings
 mod Readings
-mod Salvages
 mod SharedIndex

@@ -17,9 +17,9 @@ use Rattle.index_inspect.specs.declared.remains.Remains.{Remains}
 use Rattle.index_inspect.specs.declared.salvage.Salvaged.{Salvaged}
 use Rattle.gix_index.specs.OnDisk.FolderTrait.{Ghosts}
 use Rattle.index_failures.specs.declared.failure.Failure.{Failure}
-use Rattle.index_failures.specs.Reading.{FailsReading}
+use Rattle.index_failures.specs.Reading.{FailsReading, SaysOfHeaded}
 use Rattle.index_failures.specs.Storing.{EndsStoring}
-use Rattle.index_telling.specs.Salvaging.{FailsToSalvage, IsBeside, IsOfBytes, IsSharedIn, Salvages, SaysOfSaving}
+use Rattle.index_telling.specs.Salvaging.{FailsToSalvage, IsBeside, IsOfBytes, IsSharedIn, Salvages}
 use Rattle.index_telling.specs.declared.salvage.Report.{Report}
 
 -- ---- the shared index
@@ -53,14 +53,14 @@ pub record GivesRemains (wanted : Kind) (bytes path : List ℕ) (answer : Result
   pub kind : IfOk answer (λ remains. (contents remains.front).kind ≡ wanted)
   pub plain : IfOk answer (λ remains. IsPlainIndex remains.front)
   pub fault : (works : Bool) (world : World) → MayHave (world path) bytes
-      → IfErr answer (FailsReading (SaysOfSaving works world wanted path) path)
+      → IfErr answer (FailsReading (SaysOfHeaded works world wanted path) path)
 
 -- what is saved of these bytes, and of the shared index beside the file at a path; or why nothing is, likewise
 pub record SavesBytes {S F M : Type 0} (folder : Ghosts S F M) (now : S) (keep : Keep) (kind : Kind)
     (bytes path : List ℕ) (answer : Result Salvaged Failure) : Type 0 where
   pub saved : IfOk answer (IsOfBytes keep (disk_at (folder.known now) path).shared kind bytes)
   pub fault : (works : Bool) (world : World) → MayHave (world path) bytes
-      → IfErr answer (FailsReading (SaysOfSaving works world kind path) path)
+      → IfErr answer (FailsReading (SaysOfHeaded works world kind path) path)
 
 -- what is saved of the file at a path, and when it was changed last; or why nothing is
 pub record SavesFile {S F M : Type 0} (folder : Ghosts S F M) (now : S) (keep : Keep) (kind : Kind) (path : List ℕ)
@@ -68,7 +68,7 @@ pub record SavesFile {S F M : Type 0} (folder : Ghosts S F M) (now : S) (keep : 
   pub saved : IfOk answer (λ x. (bytes : List ℕ) × MayHave (folder.known now path) bytes
       × IsOfBytes keep (disk_at (folder.known now) path).shared kind bytes x.0)
   pub since : IfOk answer (λ x. MayBe (folder.known now path) (λ file. x.1 ≡ file.time))
-  pub fault : IfErr answer (FailsReading (SaysOfSaving (folder.works now) (folder.known now) kind path) path)
+  pub fault : IfErr answer (FailsReading (SaysOfHeaded (folder.works now) (folder.known now) kind path) path)
 
 -- it is written to another path, and reported; or why it isn't
 abbrev pub SalvagesFile : {S F M : Type 0} → Bool → Ghosts S F M → S → S → Kind → List ℕ → List ℕ → Result Report Failure

@@ -1,15 +1,12 @@
 -- What the program saves of a damaged file, and of the shared index beside it (the program's own).
-use Rattle.std.specs.Prelude.{◌≡◌, ℕ, Bool, true, false, List, length, Option, Some, None, IsSomeAnd, Ok, Err}
+use Rattle.std.specs.Prelude.{◌≡◌, ℕ, Bool, true, false, List, length, Option, Some, None, IsSomeAnd, Ok}
 use Rattle.std.specs.Option.{option_map}
 use Rattle.gix_index.specs.Checked.{IsFileAnswer}
 use Rattle.gix_index.specs.Contents.{Contents}
-use Rattle.gix_index.specs.DecodeError.TheVariants as decoding
 use Rattle.gix_index.specs.Disk.{Disk, MayHave, disk_at}
 use Rattle.gix_index.specs.Edits.{with_time, with_version}
 use Rattle.gix_index.specs.File.{state_of}
 use Rattle.gix_index.specs.FileTime.{FileTime}
-use Rattle.gix_index.specs.Header.{header_of}
-use Rattle.gix_index.specs.HeaderErrors.{header_fault}
 use Rattle.gix_index.specs.Kind.{Kind}
 use Rattle.gix_index.specs.Link.{link_of}
 use Rattle.gix_index.specs.Linked.{expecting}
@@ -17,9 +14,6 @@ use Rattle.gix_index.specs.ObjectId.{ObjectId}
 use Rattle.gix_index.specs.State.{contents, records}
 use Rattle.gix_index.specs.Disk.World.{Known, MayBe, World}
 use Rattle.gix_index.specs.declared.file.File.{File}
-use Rattle.gix_index.specs.FileFaults.{IsOfFile}
-use Rattle.gix_index.specs.FileFaults.ReadError.{Error as ReadFault}
-use Rattle.gix_index.specs.FileFaults.ReadError.TheVariants as reads
 use Rattle.index_inspect.specs.Accepted.{AreAcceptable}
 use Rattle.index_inspect.specs.Remains.{IsPlainIndex, Remain, wanted_id}
 use Rattle.index_inspect.specs.Salvage.{Saves}
@@ -29,7 +23,7 @@ use Rattle.index_inspect.specs.declared.remains.Remains.{Remains}
 use Rattle.index_inspect.specs.declared.salvage.Salvaged.{Salvaged}
 use Rattle.index_telling.specs.declared.salvage.Report.{Report}
 use Rattle.index_failures.specs.declared.failure.Failure.{Failure}
-use Rattle.index_failures.specs.Reading.{FailsReading}
+use Rattle.index_failures.specs.Reading.{FailsReading, SaysOfHeaded}
 use Rattle.index_failures.specs.Options.{IsBeginOf1970, options_as_read, unlimited_options}
 use Rattle.index_failures.specs.Storing.{FailsStoring, IsReplaced}
 
@@ -99,16 +93,7 @@ Salvages all alone guards kind old new path to report = IsReplaced alone guards 
     (λ world index. IsSalvaged all world kind path report index)
     (λ index. options_as_read (contents (state_of index)).version)
 
--- The fault is why nothing is saved of the file at a path: one of the disk that names it, what keeps the header of its
--- bytes from being read, or want of memory.
-abbrev pub SaysOfSaving : Bool → World → Kind → List ℕ → ReadFault → Type 0
-SaysOfSaving works world kind path (reads.Io fault) = IsOfFile path works (world path) fault
-SaysOfSaving works world kind path (reads.Decode (decoding.Header e)) =
-    (bytes : List ℕ) × MayHave (world path) bytes × (header_of kind bytes ≡ Err (header_fault e))
-SaysOfSaving works world kind path reads.Memory = Unit {0}
-SaysOfSaving works world kind path e = ⊥
-
 -- nothing is written, or nothing is saved
 abbrev pub FailsToSalvage : Bool → Bool → Kind → World → List ℕ → List ℕ → Failure → Type 0
 FailsToSalvage works guards kind old path to failure =
-    FailsStoring works guards old to (λ world. FailsReading (SaysOfSaving works world kind path) path) failure
+    FailsStoring works guards old to (λ world. FailsReading (SaysOfHeaded works world kind path) path) failure

@@ -12,7 +12,7 @@ use gix_index::file::folder::Folder;
 use gix_index::hash::Kind;
 use gix_index::{File, decode, file};
 use index_failures::failure::Failure;
-use index_failures::index::{bytes_at, out_of_memory};
+use index_failures::index::{headed_bytes_at, out_of_memory};
 use index_failures::storing::{commit_at, kept_as_read, lock_at};
 use index_inspect::remains::{Error, FirstFault};
 use index_inspect::{FirstUnfit, Keep, Remains, Salvaged, SharedEntries, remains_of};
@@ -179,7 +179,7 @@ fn saved_at<'a, D: Folder>(
 ) -> Result<(Salvaged, FileTime), Failure<'a>>
     ensures { SavesFile D.Folder folder.now keep kind path.now result }
 {
-    let (bytes, time) = bytes_at(folder, alloc, path)?;
+    let (bytes, time) = headed_bytes_at(folder, alloc, kind, path)?;
     let saved = saved_of(folder, alloc, keep, kind, path, &bytes)?;
     Ok((saved, time))
 }
@@ -191,7 +191,7 @@ fn saved_at<'a, D: Folder>(
 /// with `all` each that is well formed. It is written as an index without extensions, in version 4 where the first is
 /// in that, with the time at which the first was changed last, and else as [`commit_at`] says. Where a link to a shared
 /// index is read, that is looked for beside the file, and used where it can be read as an index with the link's id and
-/// fits the file. A file whose header can't be read gives nothing. [`Failure::Lock`], [`Failure::Rewrite`]: it can't be
+/// fits the file. A file whose header can't be read gives nothing, and isn't held. [`Failure::Lock`], [`Failure::Rewrite`]: it can't be
 /// written, and what was at the path is there as before. Any other failure concerns the file that is read.
 pub fn salvage<'a, D: Folder>(
     folder: &mut D,

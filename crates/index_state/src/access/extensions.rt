@@ -19,8 +19,8 @@ use index_split::link::Link;
 use index_untracked::UntrackedCache;
 
 impl State {
-    /// The cached tree, where the file had one that could be read (gitformat-index, "Cache tree"). Edits of entries
-    /// leave it as it was.
+    /// The cached tree, where the file had one that could be read (gitformat-index, "Cache tree"). `stage`, `resolve`,
+    /// `unstage` and `apply` invalidate what they change of it. All other edits of entries leave it as it was.
     pub fn tree(&self) -> Option<&Tree>
         ensures { option_map (λ t. node_of t.now) result ≡ (contents self.now).extensions.tree }
     {

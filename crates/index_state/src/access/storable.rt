@@ -15,7 +15,7 @@ impl State {
     ///
     /// Where all extensions that fit are kept (`Extensions::Kept`), bytes have to hold the others too. Of resolve-undo
     /// [`is_resolve_undo_keepable`](State::is_resolve_undo_keepable) tells it. An untracked cache and a monitor's
-    /// answer come by reading, and bytes can hold them; edits keep them so.
+    /// answer come by reading, and bytes can hold them. `stage`, `resolve`, `unstage` and `apply` keep them so.
     ///
     /// It holds of each state that was read or newly made, and a caller that edits through loans, as
     /// [`entries_mut`](State::entries_mut) and [`tree_mut`](State::tree_mut) give them, sees by it whether it still

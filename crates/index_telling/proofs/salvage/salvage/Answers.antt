@@ -8,11 +8,11 @@ use Rattle.gix_index.specs.State.{contents}
 use Rattle.gix_index.specs.File.{state_of}
 use Rattle.gix_index.specs.declared.file.File.{File}
 use Rattle.index_failures.specs.Options.{options_as_read}
-use Rattle.index_failures.specs.Reading.{FailsReading}
+use Rattle.index_failures.specs.Reading.{FailsReading, SaysOfHeaded}
 use Rattle.index_failures.specs.Storing.{unlocked, unread, unwritten}
 use Rattle.index_failures.proofs.Replaced.{replaced}
 use Rattle.index_failures.proofs.Restored.{restores, restores_unmade}
-use Rattle.index_telling.specs.Salvaging.{IsSalvaged, SaysOfSaving}
+use Rattle.index_telling.specs.Salvaging.{IsSalvaged}
 use Rattle.index_telling.proofs.salvage.salvage.Goals as goal
 
 pub returns-in_err-lock : goal.returns-in_err-lock
@@ -34,7 +34,7 @@ returns-in-Err g c = record {
       c.in_ok-lock.ensures.beside
       (rw c.lock_at.ensures.manner.works at (c.release.ensures.released (c.lock_at.ensures.manner.alone ∙ alone)));
   fault = unread c.in_ok-lock.lock.place (g.D.Folder.known c.lock_at.new.folder) c.in_ok-lock.ensures.locked
-      (subst (λ (b : Bool). FailsReading (SaysOfSaving b (g.D.Folder.known c.lock_at.new.folder) c.args.kind
+      (subst (λ (b : Bool). FailsReading (SaysOfHeaded b (g.D.Folder.known c.lock_at.new.folder) c.args.kind
       c.args.path.now) c.args.path.now c.in-Err.failure) c.lock_at.ensures.manner.works c.in-Err.ensures.fault);
 }
 

@@ -1,5 +1,4 @@
 use Rattle.std.proofs.lemmas.Result.{err_from_is_err_and}
-use Rattle.index_telling.proofs.Salvages.{bytes_not_saved}
 use Rattle.index_telling.proofs.salvage.saved_at.Goals as goal
 
 pub returns-in_err-bytes : goal.returns-in_err-bytes
@@ -8,8 +7,7 @@ returns-in_err-bytes g c =
     rw (p.1, p.2) (record {
       saved = tt;
       since = tt;
-      fault = bytes_not_saved (g.D.Folder.works c.args.folder.now) (g.D.Folder.known c.args.folder.now) c.args.kind
-          c.args.path.now _ c.in_err-bytes.ensures.fault;
+      fault = c.in_err-bytes.ensures.fault;
     })
 
 pub returns-in_err-saved : goal.returns-in_err-saved
