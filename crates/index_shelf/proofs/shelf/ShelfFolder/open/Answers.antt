@@ -12,5 +12,8 @@ returns-in_default-clause-fault c =
     let kept = kept_at c.args.self.now in
     let path = path_bytes c.args.path in
     let gone : None ≡ kept path = search rules in
-    λ works. inr (search rules, by_known MayBeMissing c.args.self.now.is_alone (kept (path ++ codes ".lock")) (kept path)
-    tt (subst (λ (o : Option Kept). MayBeMissing (known_as o)) gone tt))
+    λ works. inr (
+      search rules,
+      by_known MayBeMissing c.args.self.now.is_alone (kept (path ++ codes ".lock")) (kept path)
+          tt (subst (λ (o : Option Kept). MayBeMissing (known_as o)) gone tt),
+    )
