@@ -44,13 +44,15 @@ opened_so Special stored P e h = tt
 -- a fault of an open file, by what is known of it
 pub fault_of_open : (stored : Option Stored) (e : IoError) → IsOwnFault (whole_of stored) e
     → IsFaultOf (known_of stored) e
-fault_of_open None e h = inl h
+fault_of_open None e (inl memory) = inl (inl memory)
+fault_of_open None e (inr h) = inl (inr (tt, h.1))
 fault_of_open (Some file) e h = inl h
 
 -- an opened file isn't missing
 fault_of_opened : (k : Known) (stored : Option Stored) (e : IoError) → MayBe k (λ there. stored ≡ Some there)
     → IsFaultOf (known_of stored) e → IsFaultOf k e
-fault_of_opened k None e there (inl h) = own_fault_at k None e there h
+fault_of_opened k None e there (inl (inl memory)) = inl (inl memory)
+fault_of_opened k None e there (inl (inr h)) = own_fault_at k None e there (inr (tt, h.1))
 fault_of_opened k (Some file) e there (inl h) = own_fault_at k (Some file) e there h
 fault_of_opened k None e there (inr h) = absurd h.1
 fault_of_opened k (Some file) e there (inr h) = absurd h.1

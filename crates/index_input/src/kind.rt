@@ -51,11 +51,7 @@ fn is_signed(bytes: &[u8]) -> bool
 
 /// All bytes of the file at a path; of one without the signature of an index only the first four, or all if it has
 /// fewer. None where what is opened there is no regular file, of which nothing is taken. A folder is an error.
-fn signed_bytes<D: Folder>(
-    folder: &D,
-    alloc: Global,
-    path: Path<'_>,
-) -> io::Result<Option<Vec<u8>>>
+fn signed_bytes<D: Folder>(folder: &D, alloc: Global, path: Path<'_>) -> io::Result<Option<Vec<u8>>>
     ensures { ReadsSigned D.Folder folder.now path.entry result }
 {
     let mut file = folder.open(path)?;

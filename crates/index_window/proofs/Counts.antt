@@ -1,12 +1,17 @@
 -- How many bytes came of a file behind those at hand, and that they are too many.
 use Rattle.std.proofs.Common.{◌≡◌, ◌+◌, ◌<◌, ℕ, List, ◌++◌, length, Option, Some, None, inl, inr, refl, ap, subst, arith}
-use Rattle.std.specs.Prelude.{◌⊎◌, IfSome}
+use Rattle.std.specs.Prelude.{◌⊎◌, Err, IfErr, IfSome, Ok, Result}
 use Rattle.std.specs.Io.{StartsWith, appended_bytes}
 use Rattle.std.specs.Io.KnownBytes.{Consumes}
 use Rattle.std.specs.declared.io.Error.{Error as IoError}
 use Rattle.std.proofs.KnownBytes.{starts_with_rest}
 use Rattle.std.proofs.lemmas.List.{length-append}
+use Rattle.std.specs.IoError.{error_kind}
+use Rattle.std.specs.declared.io.ErrorKind.TheVariants.{FileTooLarge}
+use Rattle.index_folder.proofs.Sizes.{no_room_for}
 use Rattle.index_folder.specs.Sizes.{IsOwnFault, IsTooLong}
+use Rattle.index_folder.specs.World.{IsStatusOf, Stored, whole_of}
+use Rattle.index_folder.specs.declared.folder.Status.{Status}
 use Rattle.index_window.specs.ReadWhole.{IsFaultBehind}
 
 -- so many bytes are those at hand at first and those that came since, where the file is known
@@ -23,14 +28,18 @@ came : (now next : Option (List ℕ)) (n piece : List ℕ) (before len count tot
     → (m : List ℕ) × (next ≡ Some m) × ((len + count) + length m ≡ total)
 came None next n piece before len count total is sum c long = absurd cc
 came (Some x) None n piece before len count total is sum c long = absurd c
-came (Some x) (Some m) n piece before len count total is sum c long = (m, refl, omega (
-  arith,
-  sum,
-  long,
-  ap length c,
-  length-append piece m,
-  ap (λ (o : Option (List ℕ)). some_len o) is,
-))
+came (Some x) (Some m) n piece before len count total is sum c long = (
+  m,
+  refl,
+  omega (
+    arith,
+    sum,
+    long,
+    ap length c,
+    length-append piece m,
+    ap (λ (o : Option (List ℕ)). some_len o) is,
+  ),
+)
   where
     some_len : Option (List ℕ) → ℕ
     some_len None = 0
@@ -80,3 +89,13 @@ fault_behind None now head e c (inr h) = inr (tt, h.1)
 fault_behind (Some l) None head e c (inr h) = absurd c
 fault_behind (Some l) (Some rest) head e c (inr h) =
     inr (omega (arith, h.0, ap length c, length-append head rest), h.1)
+
+-- a file that says that it has too many bytes
+pub says_too_long : (stored : Option Stored) (status : Status) (e : IoError) → IfSome stored (IsStatusOf status)
+    → IsTooLong status.len → error_kind e ≡ FileTooLarge → IsOwnFault (whole_of stored) e
+says_too_long stored status e told long is = no_room_for stored status e told (inr (long, is))
+
+pub faults_behind : {T : Type 0} (whole now : Option (List ℕ)) (head : List ℕ) (r : Result T IoError)
+    → Consumes whole now head → IfErr r (IsFaultBehind (length head) now) → IfErr r (IsOwnFault whole)
+faults_behind whole now head (Ok x) c h = tt
+faults_behind whole now head (Err e) c h = fault_behind whole now head e c h

@@ -1,7 +1,7 @@
 //! Locking, writing and reading over a folder in memory, of which each step fails in turn.
 
 use gix_index::entry::{FileTime, Flags, Mode, Stage, Stat};
-use gix_index::file::{init, write};
+use gix_index::file::{init, lock, write};
 use gix_index::hash::{Kind, ObjectId};
 use gix_index::write::Options;
 use gix_index::{File, State, decode};
@@ -152,8 +152,17 @@ fn call_told(call: Call, shelf: &mut Shelf<'_>, alloc: Global) -> Told {
 fn shelf_with<'a>(alloc: Global, steps: Steps<'a>, bytes: &[u8]) -> Result<Shelf<'a>, AllocError> {
     let mut shelf = Shelf::new(alloc, at(2), steps);
     let bytes = bytes.to_vec(alloc)?;
-    shelf.keep(Path::new("index"), Kept { bytes, time: at(1) })?;
+    shelf.keep(Path::new("index"), kept(bytes))?;
     Ok(shelf)
+}
+
+/// A file of the first second with these bytes, of which it isn't known that they are on the disk.
+fn kept(bytes: Vec<u8>) -> Kept {
+    Kept {
+        bytes,
+        time: at(1),
+        is_durable: false,
+    }
 }
 
 /// Whether the index on a shelf has these bytes and this time.
@@ -252,7 +261,7 @@ fn read_split(alloc: Global, shared: &[u8]) -> Result<Refusals, AllocError> {
         };
         let mut shelf = shelf_with(alloc, steps, SPLIT)?;
         let bytes = shared.to_vec(alloc)?;
-        shelf.keep(Path::new(SHARED), Kept { bytes, time: at(1) })?;
+        shelf.keep(Path::new(SHARED), kept(bytes))?;
         let path = PathBuf::from_str(alloc, "index")?;
         match File::at_in(&shelf, alloc, path, Kind::Sha1, false, at(1), options) {
             Ok(file) => {
@@ -273,9 +282,9 @@ fn no_fault_tears_an_index(rt: HostRuntime) -> Result<(), Fail> {
     // (a fault that lasts from the step behind the making of a lock on keeps that from being removed)
     let wanted = [
         (Call::Commit, false, 17, 0, 0),
-        (Call::Commit, true, 18, 0, 16),
-        (Call::Release, false, 15, 0, 1),
-        (Call::Release, true, 15, 0, 12),
+        (Call::Commit, true, 17, 0, 15),
+        (Call::Release, false, 14, 0, 1),
+        (Call::Release, true, 14, 0, 11),
         (Call::Write, false, 3, 1, 0),
         (Call::Write, true, 3, 1, 2),
     ];
@@ -307,5 +316,56 @@ fn a_fault_names_the_file_that_is_read(rt: HostRuntime) -> Result<(), Fail> {
         entries: 2,
     };
     assert_eq!(rt; read_split(rt.alloc(), &shared)?, wanted);
+    Ok(())
+}
+
+/// Whether the index on a shelf was locked, and written to the disk before it was put there where that is wanted.
+fn is_committed(shelf: &mut Shelf<'_>, alloc: Global, is_synced: bool) -> bool {
+    let Ok(path) = PathBuf::from_str(alloc, "index") else {
+        return false;
+    };
+    let options = decode::Options::default();
+    let Ok(locked) = File::lock(shelf, alloc, path, Kind::Sha1, false, options, false) else {
+        return false;
+    };
+    let is_held = is_held(shelf, alloc);
+    if locked
+        .commit(shelf, alloc, Options::default(), is_synced)
+        .is_err()
+    {
+        return false;
+    }
+    match shelf.file(Path::new("index")) {
+        Some(kept) => is_held && kept.is_durable == is_synced,
+        None => false,
+    }
+}
+
+/// Whether the index on a shelf can't be locked, as its lock is there.
+fn is_held(shelf: &mut Shelf<'_>, alloc: Global) -> bool {
+    let Ok(path) = PathBuf::from_str(alloc, "index") else {
+        return false;
+    };
+    let options = decode::Options::default();
+    match File::lock(shelf, alloc, path, Kind::Sha1, false, options, false) {
+        Err(lock::Error::Lock(lock::Fault::Held(lock))) => lock.as_path().as_str() == "index.lock",
+        _ => false,
+    }
+}
+
+#[test]
+fn a_second_lock_is_refused_till_the_first_is_gone(rt: HostRuntime) -> Result<(), Fail> {
+    let alloc = rt.alloc();
+    let taken = Cell::new(0);
+    let steps = Steps {
+        taken: &taken,
+        fault: Fault::Never,
+    };
+    let bytes = bytes_of(alloc, OLD, Options::default())?;
+    let mut alone = shelf_with(alloc, steps, &bytes)?;
+    assert!(rt; is_committed(&mut alone, alloc, true));
+    let mut shared = shelf_with(alloc, steps, &bytes)?.shared();
+    assert!(rt; is_committed(&mut shared, alloc, false));
+    assert!(rt; is_committed(&mut shared, alloc, true));
     Ok(())
 }
