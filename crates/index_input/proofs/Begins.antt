@@ -21,7 +21,7 @@ same_begin bytes first (Some rest) consumed end =
 pub begins_with : (known : Known) (stored : Option Stored) (next : Option (List ℕ)) (first : List ℕ)
     → MayBe known (λ there. stored ≡ Some there) → Consumes (whole_of stored) next first
     → (length first < 4 → IsAtEnd next) → BeginsWith known (take 4 first)
-begins_with Unknown stored next first e consumed end = record { bytes = first; held = tt; starts = refl; }
+begins_with Unknown stored next first e consumed end = record { bytes = first; held = tt; starts = refl }
 begins_with Absent stored next first e consumed end = absurd e
 begins_with (Holds file) stored next first e consumed end = record {
   bytes = file.bytes;
@@ -29,6 +29,6 @@ begins_with (Holds file) stored next first e consumed end = record {
   starts = same_begin file.bytes first next
       (subst (λ (s : Option Stored). Consumes (whole_of s) next first) e consumed) end;
 }
-begins_with (Leads to) stored next first e consumed end = record { bytes = first; held = tt; starts = refl; }
-begins_with Directory stored next first e consumed end = record { bytes = first; held = tt; starts = refl; }
-begins_with Special stored next first e consumed end = record { bytes = first; held = tt; starts = refl; }
+begins_with (Leads to) stored next first e consumed end = record { bytes = first; held = tt; starts = refl }
+begins_with Directory stored next first e consumed end = record { bytes = first; held = tt; starts = refl }
+begins_with Special stored next first e consumed end = record { bytes = first; held = tt; starts = refl }
