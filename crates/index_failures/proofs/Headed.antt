@@ -1,10 +1,14 @@
 -- What is read whole of an opened file is so of what is known at its path.
-use Rattle.std.proofs.Common.{◌≡◌, false, true, Option, Some, cc, subst}
+use Rattle.std.proofs.Common.{◌≡◌, ℕ, Bool, false, true, List, Option, Some, subst, sym}
 use Rattle.std.specs.Prelude.{IfSome}
+use Rattle.gix_index.specs.DecodeError.{Error as DecodeError}
 use Rattle.gix_index.specs.DecodeError.TheVariants.{Header}
-use Rattle.gix_index.specs.Disk.World.{Absent, Directory, Holds, Known, Leads, MayBe, Special, Stored, Unknown}
+use Rattle.gix_index.specs.Disk.World.{Absent, Directory, Holds, Known, Leads, MayBe, Special, Stored, Unknown, World}
+use Rattle.gix_index.specs.FileFaults.ReadError.{Error as ReadFault}
+use Rattle.gix_index.specs.FileFaults.ReadError.TheVariants as reads
 use Rattle.gix_index.specs.Kind.{Kind}
-use Rattle.index_failures.specs.Calls.{IsWholeOf}
+use Rattle.index_failures.specs.Calls.{IsHeadless, IsWholeOf}
+use Rattle.index_failures.specs.Reading.{SaysOfBytes, SaysOfHeaded}
 use Rattle.index_window.specs.ReadWhole.{IsReadWhole, IsRefusal, broken, intact}
 use Rattle.index_window.specs.declared.disk.WholeFile.{WholeFile}
 use Rattle.index_window.specs.declared.disk.WholeFile.TheVariants as whole
@@ -24,8 +28,29 @@ pub whole_of_opened : (known : Known) (stored : Option Stored) (kind : Kind) (w 
 whole_of_opened known stored kind (whole.Held bytes digest) e h =
     opened_so known stored (λ file. bytes.items ≡ file.bytes) e h.0
 whole_of_opened known stored kind (whole.Refused f) e h =
-    (h.bytes, opened_so known stored (λ file. h.bytes ≡ file.bytes) e h.whole, (h.fault, h.header, by h.refusal))
+    record {
+      bytes = h.bytes;
+      held = opened_so known stored (λ file. h.bytes ≡ file.bytes) e h.whole;
+      fault = h.fault;
+      header = h.header;
+      is = by h.refusal;
+    }
   where
     by : IsRefusal true kind h.bytes h.fault f → f ≡ Header h.fault
     by (broken b is) = let none : false ≡ true = b.0 in cc
     by (intact i is) = is
+
+-- a fault of all bytes is one of those behind a header
+pub says_of_headed : (works : Bool) (world : World) (kind : Kind) (path : List ℕ) (e : ReadFault)
+    → SaysOfBytes works world path e → SaysOfHeaded works world kind path e
+says_of_headed works world kind path (reads.Io fault) h = h
+says_of_headed works world kind path (reads.Decode e) h = absurd h
+says_of_headed works world kind path (reads.LinkExtension e) h = absurd h
+says_of_headed works world kind path reads.Memory h = tt
+
+-- and so is a fault of the header
+pub refused_says : (works : Bool) (world : World) (kind : Kind) (path : List ℕ) (e : DecodeError)
+    → IsHeadless (world path) kind e → SaysOfHeaded works world kind path (reads.Decode e)
+refused_says works world kind path e h =
+    subst (λ (x : DecodeError). SaysOfHeaded works world kind path (reads.Decode x)) (sym h.is)
+    (h.bytes, h.held, h.header)

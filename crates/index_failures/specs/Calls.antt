@@ -4,6 +4,7 @@ use Rattle.std.specs.Global.{Vec}
 use Rattle.std.specs.Path.{path_bytes}
 use Rattle.std.specs.declared.io.Error.{Error as IoError}
 use Rattle.std.specs.declared.path.Path.{Path}
+use Rattle.gix_index.specs.DecodeError.{Error as DecodeError}
 use Rattle.gix_index.specs.DecodeError.TheVariants as decoding
 use Rattle.gix_index.specs.Disk.{MayHave, disk_at}
 use Rattle.gix_index.specs.Disk.World.{Known, MayBe}
@@ -37,11 +38,18 @@ pub record ReadsBytes {S F M : Type 0} (folder : Ghosts S F M) (now : S) (path :
   pub since : IfOk answer (λ read. MayBe (folder.known now path) (λ file. read.1 ≡ file.time))
   pub fault : IfErr answer (FailsReading (SaysOfBytes (folder.works now) (folder.known now) path) path)
 
+-- the header of a file's bytes has a fault, which this error says
+pub record IsHeadless (known : Known) (kind : Kind) (e : DecodeError) : Type 0 where
+  pub bytes : List ℕ
+  pub held : MayHave known bytes
+  pub fault : Header
+  pub header : header_of kind bytes ≡ Err (header_fault fault)
+  pub is : e ≡ decoding.Header fault
+
 -- all bytes of a file of which this is known, or the fault of their header
 abbrev pub IsWholeOf : Known → Kind → WholeFile → Type 0
 IsWholeOf known kind (whole.Held bytes digest) = MayHave known bytes.items
-IsWholeOf known kind (whole.Refused e) = (bytes : List ℕ) × MayHave known bytes
-    × ((fault : Header) × (header_of kind bytes ≡ Err (header_fault fault)) × (e ≡ decoding.Header fault))
+IsWholeOf known kind (whole.Refused e) = IsHeadless known kind e
 
 -- these of the file at a path, and when it was changed last
 pub record ReadsWholeAt {S F M : Type 0} (folder : Ghosts S F M) (now : S) (kind : Kind) (path : Path)

@@ -65,6 +65,7 @@ pub fn bytes_at<'a, D: Folder>(
 }
 
 /// All bytes of the file at a path, or the fault of its header, whose bytes aren't held; and when it was changed last.
+#[tactic(auto, using(index_folder::proofs::Sizes::own_fault_at))]
 fn whole_at<D: Folder>(
     folder: &D,
     alloc: Global,
@@ -93,8 +94,10 @@ pub fn headed_bytes_at<'a, D: Folder>(
         return Err(out_of_memory(path));
     };
     match whole_at(folder, alloc, kind, file.as_path()) {
-        Ok((WholeFile::Held(bytes, _), time)) => Ok((bytes, time)),
-        Ok((WholeFile::Refused(e), _)) => Err(failure_of(path, file::init::Error::Decode(e))),
+        Ok((read, time)) => match read {
+            WholeFile::Held(bytes, _) => Ok((bytes, time)),
+            WholeFile::Refused(e) => Err(failure_of(path, file::init::Error::Decode(e))),
+        },
         Err(fault) => Err(failure_of(path, fault_of(file, fault))),
     }
 }
