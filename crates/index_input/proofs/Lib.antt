@@ -1,3 +1,4 @@
+mod Begins
 mod Faults
 mod Formats
 mod Gits
