@@ -142,7 +142,9 @@ joins l found own new shared named fits d placed storable =
       })
           refl;
       same_kind = ap (λ (c : Contents). c.kind) e;
-      index = λ h. index_moved own new (contents new).fit e h (placed h.placed) (storable h.storable fits.storable fits.same_kind);
+      index = λ h.
+          index_moved own new (contents new).fit e h (placed h.placed)
+          (storable h.storable fits.storable fits.same_kind);
     }
 
 pub fits_not : (l : LinkValue) (found : Bool) (own new shared : State) (fault : LinkFault)
@@ -156,7 +158,9 @@ fits_not l found own new shared fault named is_fault u placed =
     record {
       is = unfit l (contents shared) (contents own) fault (refl, named) refl is_fault same refl;
       same_kind = ap (λ (c : Contents). c.kind) u.same_contents;
-      index = λ h. index_moved own new (contents own).fit e h (placed h.placed) (subst IsStorable (sym u.same_contents) h.storable);
+      index = λ h.
+          index_moved own new (contents own).fit e h (placed h.placed)
+          (subst IsStorable (sym u.same_contents) h.storable);
     }
 
 -- ---- where memory is asked for

@@ -1,6 +1,6 @@
 //! A folder in memory.
 
-ghost use Rattle.std.specs.Prelude.{◌≡◌, ◌≢◌, List, ℕ, OnErr, OnOk, Some, false, true};
+ghost use Rattle.std.specs.Prelude.{◌≡◌, ◌≢◌, List, ℕ, OnErr, OnOk, Some, true};
 ghost use Rattle.std.specs.Option.{option_copied};
 ghost use Rattle.std.specs.Path.{path_bytes};
 ghost use Rattle.index_folder.specs.World.{Absent};
@@ -28,8 +28,7 @@ pub struct Kept {
     pub is_durable: bool,
 }
 
-/// Regular files by their paths, and no folders or links: a path is any text, and leads to itself. Nobody else changes
-/// them, or others may change what isn't locked.
+/// Regular files by their paths, and no folders or links: a path is any text, and leads to itself.
 ///
 /// Each call of [`Folder`] and of the files that are opened and made takes a step, but [`Folder::read_link`], which
 /// always fails, as there are no links. A step that fails is an error of the kind `TimedOut`, and leaves all as it was.
@@ -40,8 +39,6 @@ pub struct Shelf<'a> {
     files: BTreeMap<String, Kept>,
     /// When files are made and written.
     now: FileTime,
-    /// Whether nobody else changes files.
-    is_alone: bool,
     steps: Steps<'a>,
 }
 
@@ -49,36 +46,12 @@ impl<'a> Shelf<'a> {
     /// A shelf without files, on which files are made and written at the time that is given.
     pub fn new(alloc: Global, now: FileTime, steps: Steps<'a>) -> Shelf<'a>
         ensures empty { (path : List ℕ) → world_of result path ≡ Absent }
-        ensures alone { result.is_alone ≡ true }
         ensures fault { fault_of result ≡ steps.entry.fault }
     {
         Shelf {
             alloc,
             files: BTreeMap::new(alloc),
             now,
-            is_alone: true,
-            steps,
-        }
-    }
-
-    /// The shelf as one on which others may change what isn't locked, as [`Shelf::keep`] does. What is locked is known.
-    pub fn shared(self) -> Shelf<'a>
-        ensures kept { kept_at result ≡ kept_at self.entry }
-        ensures shared { result.is_alone ≡ false }
-        ensures fault { fault_of result ≡ fault_of self.entry }
-    {
-        let Shelf {
-            alloc,
-            files,
-            now,
-            steps,
-            ..
-        } = self;
-        Shelf {
-            alloc,
-            files,
-            now,
-            is_alone: false,
             steps,
         }
     }
@@ -91,7 +64,6 @@ impl<'a> Shelf<'a> {
         ensures others { OnOk result ((p : List ℕ) → p ≢ path_bytes path.entry
             → kept_at self.new p ≡ kept_at self.old p) }
         ensures kept { OnErr result (world_of self.new ≡ world_of self.old) }
-        ensures alone { self.new.is_alone ≡ self.old.is_alone }
         ensures fault { fault_of self.new ≡ fault_of self.old }
     {
         let key = String::from_str(self.alloc, path.as_str())?;
@@ -114,7 +86,7 @@ impl<'a> Folder for Shelf<'a> {
 
     ghost known = { λ shelf. world_of shelf };
 
-    ghost alone = { λ shelf. shelf.is_alone };
+    ghost alone = { λ _. true };
 
     ghost guards = { λ _. true };
 

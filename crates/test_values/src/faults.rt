@@ -362,10 +362,8 @@ fn a_second_lock_is_refused_till_the_first_is_gone(rt: HostRuntime) -> Result<()
         fault: Fault::Never,
     };
     let bytes = bytes_of(alloc, OLD, Options::default())?;
-    let mut alone = shelf_with(alloc, steps, &bytes)?;
-    assert!(rt; is_committed(&mut alone, alloc, true));
-    let mut shared = shelf_with(alloc, steps, &bytes)?.shared();
-    assert!(rt; is_committed(&mut shared, alloc, false));
-    assert!(rt; is_committed(&mut shared, alloc, true));
+    let mut shelf = shelf_with(alloc, steps, &bytes)?;
+    assert!(rt; is_committed(&mut shelf, alloc, false));
+    assert!(rt; is_committed(&mut shelf, alloc, true));
     Ok(())
 }

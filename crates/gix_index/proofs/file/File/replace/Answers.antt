@@ -35,6 +35,6 @@ returns-in-Ok-put-clause-put g c = λ alone.
     (path_buf_bytes c.in_ok-lock.lock) (path_bytes c.as_path.result) (path_bytes c.as_path-2.result)
     (path_bytes c.as_path-3.result) (contents (state_of c.args.self.now)) c.args.options
     (g.D.Made.Write.contents c.in-Ok.file) (g.D.Made.Write.contents c.in-Ok-fill.filled.file)
-    (g.D.Made.Made.given c.in-Ok-fill.filled.file) c.in_ok-lock.ensures c.as_path.ensures c.as_path-2.ensures
+    (g.D.Made.Made.changed c.in-Ok-fill.filled.file) c.in_ok-lock.ensures c.as_path.ensures c.as_path-2.ensures
     c.as_path-3.ensures (c.in-Ok.ensures.empty alone) c.in-Ok-fill.ensures.bytes c.in-Ok.ensures.made
     (c.in-Ok-put.ensures.moved (c.in-Ok.ensures.alone ∙ alone))
