@@ -1,5 +1,5 @@
 -- What the program makes of an index by the changes that a text says (the program's own).
-use Rattle.std.specs.Prelude.{◌≡◌, ℕ, Bool, List, [], ◌∷◌, All, None, map}
+use Rattle.std.specs.Prelude.{◌≡◌, ℕ, Bool, List, [], ◌∷◌, All, Option, None, map}
 use Rattle.gix_index.specs.Changing.Changes.{IsAppliedTo, refusal_of}
 use Rattle.gix_index.specs.Changing.Updates.{updated}
 use Rattle.gix_index.specs.Changing.Wholes.{refusal_among}
