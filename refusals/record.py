@@ -134,7 +134,8 @@ def due(root, below, edits):
     """The edits that are to be judged: those that aren't as they were seen, or whose crate isn't; and others in turn.
 
     Where crates below state something else, an edit waits for its turn. The crates whose turn it is change with each
-    change of what the sums are of. Right edits go with the others.
+    change of what the sums are of. None has its turn where at least as many edits have changed as would be judged in
+    turn. Right edits go with the others.
     """
     sums, known, left = Sums(root, below), seen(root), {}
     of = {crate: {it: sums.of(it) for it in its} for crate, its in edits.items()}
@@ -147,7 +148,8 @@ def due(root, below, edits):
     turn = sum_of(*[part for crate in sorted(of) for sum in of[crate].values() for part in sum])
     same = {crate: its for crate, its in of.items() if crate not in left}
     crates = {it.crate for it in waiting}
-    for crate in list(in_turn(same, turn, crates, len(was) // AGAIN)):
-        left[crate] = list(of[crate])
+    room = len(was) // AGAIN - len(changed)
+    if room > 0:
+        left |= {crate: list(of[crate]) for crate in in_turn(same, turn, crates, room)}
     tried = {it for its in left.values() for it in its}
     return Due(left, len(changed), len(tried - changed), len(waiting - tried))
