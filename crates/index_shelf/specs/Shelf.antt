@@ -1,8 +1,8 @@
 -- What a shelf and its files have, and whether their steps may fail (the library's own).
-use Rattle.std.specs.Prelude.{◌≡◌, ℕ, ◌==◌, List, Bool, true, false, Option, Some, None, String, IsSomeAnd, nat_le}
+use Rattle.std.specs.Prelude.{◌≡◌, ℕ, ◌==◌, ◌++◌, codes, List, Bool, true, false, Option, Some, None, String, IsSomeAnd, nat_le}
 use Rattle.std.specs.BTreeMap.{BTreeMap, get_by_text}
 use Rattle.std.specs.Io.Cursor.{cursor_inner, cursor_remaining}
-use Rattle.index_folder.specs.World.{Absent, Holds, Known, Stored, World}
+use Rattle.index_folder.specs.World.{Absent, Holds, Known, Stored, Unknown, World}
 use Rattle.index_metadata.specs.declared.entry.stat.FileTime.{FileTime}
 use Rattle.index_shelf.specs.declared.file.ShelfFile.{ShelfFile}
 use Rattle.index_shelf.specs.declared.made.ShelfMade.{ShelfMade}
@@ -37,9 +37,21 @@ kept_in files path = get_by_text files path
 abbrev pub kept_at : Shelf → List ℕ → Option Kept
 kept_at shelf = kept_in shelf.files
 
--- what is at each path
+-- What is known of a path, where this is kept at its path with `.lock` behind it, and this at itself. Where nobody else
+-- changes files, that is what is kept. Else it is so while the lock is there, whoever made it, and without it nothing is
+-- known. A lock is a path like any other: it is known only while it has a lock of its own.
+abbrev pub known_by : Bool → Option Kept → Option Kept → Known
+known_by true lock kept = known_as kept
+known_by false None kept = Unknown
+known_by false (Some lock) kept = known_as kept
+
+-- what is known of each path, where these files are kept
+abbrev pub world_by : Bool → (List ℕ → Option Kept) → World
+world_by alone files path = known_by alone (files (path ++ codes ".lock")) (files path)
+
+-- what is known of each path of a shelf
 abbrev pub world_of : Shelf → World
-world_of shelf path = known_as (kept_at shelf path)
+world_of shelf = world_by shelf.is_alone (kept_at shelf)
 
 -- its bytes were on the disk before it came to its path
 abbrev pub IsDurable : Option Kept → Type 0

@@ -1,6 +1,6 @@
 //! A file of a shelf that was made new.
 
-ghost use Rattle.std.specs.Prelude.{◌≡◌, true, OnOk, Some};
+ghost use Rattle.std.specs.Prelude.{◌≡◌, false, true, OnOk, Some};
 ghost use Rattle.std.specs.Io.{WritesAtMost};
 ghost use Rattle.std.specs.Io.KnownBytes.{WriteAppends};
 ghost use Rattle.index_shelf.specs.Shelf.{bytes_of, time_of};
@@ -31,6 +31,7 @@ impl Write for ShelfMade<'_> {
         ensures bytes { WriteAppends (Some (bytes_of self.old)) (Some (bytes_of self.new)) result
             bytes.now }
         ensures changed { OnOk result (time_of self.new ≡ self.old.now) }
+        ensures unsynced { OnOk result (self.new.is_synced ≡ false) }
     {
         self.steps.take()?;
         let count = self.bytes.write(bytes)?;

@@ -1,6 +1,6 @@
 //! A folder in memory.
 
-ghost use Rattle.std.specs.Prelude.{◌≡◌, ◌≢◌, List, ℕ, OnErr, OnOk, Some, true};
+ghost use Rattle.std.specs.Prelude.{◌≡◌, ◌≢◌, List, ℕ, OnErr, OnOk, Some, false, true};
 ghost use Rattle.std.specs.Option.{option_copied};
 ghost use Rattle.std.specs.Path.{path_bytes};
 ghost use Rattle.index_folder.specs.World.{Absent};
@@ -28,7 +28,8 @@ pub struct Kept {
     pub is_durable: bool,
 }
 
-/// Regular files by their paths, and no folders or links: a path is any text, and leads to itself.
+/// Regular files by their paths, and no folders or links: a path is any text, and leads to itself. Nobody else changes
+/// them, or others may change what isn't locked.
 ///
 /// Each call of [`Folder`] and of the files that are opened and made takes a step, but [`Folder::read_link`], which
 /// always fails, as there are no links. A step that fails is an error of the kind `TimedOut`, and leaves all as it was.
@@ -39,6 +40,8 @@ pub struct Shelf<'a> {
     files: BTreeMap<String, Kept>,
     /// When files are made and written.
     now: FileTime,
+    /// Whether nobody else changes files.
+    is_alone: bool,
     steps: Steps<'a>,
 }
 
@@ -46,14 +49,27 @@ impl<'a> Shelf<'a> {
     /// A shelf without files, on which files are made and written at the time that is given.
     pub fn new(alloc: Global, now: FileTime, steps: Steps<'a>) -> Shelf<'a>
         ensures empty { (path : List ℕ) → world_of result path ≡ Absent }
+        ensures alone { result.is_alone ≡ true }
         ensures fault { fault_of result ≡ steps.entry.fault }
     {
         Shelf {
             alloc,
             files: BTreeMap::new(alloc),
             now,
+            is_alone: true,
             steps,
         }
+    }
+
+    /// The shelf as one on which others may change what isn't locked, as [`Shelf::keep`] does. What is at a path is known
+    /// only while its lock is there, which is the path with `.lock` behind it.
+    pub fn shared(mut self) -> Shelf<'a>
+        ensures kept { kept_at result ≡ kept_at self.entry }
+        ensures shared { result.is_alone ≡ false }
+        ensures fault { fault_of result ≡ fault_of self.entry }
+    {
+        self.is_alone = false;
+        self
     }
 
     /// Puts a file at a path, in the place of what is there. It takes no step. After an error, which is want of memory,
@@ -63,7 +79,8 @@ impl<'a> Shelf<'a> {
             (kept_at self.new (path_bytes path.entry) ≡ Some kept) }
         ensures others { OnOk result ((p : List ℕ) → p ≢ path_bytes path.entry
             → kept_at self.new p ≡ kept_at self.old p) }
-        ensures kept { OnErr result (world_of self.new ≡ world_of self.old) }
+        ensures kept { OnErr result (kept_at self.new ≡ kept_at self.old) }
+        ensures alone { self.new.is_alone ≡ self.old.is_alone }
         ensures fault { fault_of self.new ≡ fault_of self.old }
     {
         let key = String::from_str(self.alloc, path.as_str())?;
@@ -86,7 +103,7 @@ impl<'a> Folder for Shelf<'a> {
 
     ghost known = { λ shelf. world_of shelf };
 
-    ghost alone = { λ _. true };
+    ghost alone = { λ shelf. shelf.is_alone };
 
     ghost guards = { λ _. true };
 

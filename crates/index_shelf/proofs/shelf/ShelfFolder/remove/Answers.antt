@@ -1,14 +1,17 @@
 use Rattle.std.proofs.Common.{rules}
 use Rattle.std.specs.Path.{path_bytes}
-use Rattle.index_shelf.proofs.Worlds.{removed, taken_out}
-use Rattle.index_shelf.specs.Shelf.{kept_in}
+use Rattle.index_folder.specs.World.{Removes}
+use Rattle.index_shelf.proofs.Worlds.{removed, taken_out, when_alone}
+use Rattle.index_shelf.specs.Shelf.{kept_in, world_by}
 use Rattle.index_shelf.proofs.shelf.ShelfFolder.remove.Goals as goal
 
 pub returns : goal.returns
 returns c = record {
-  removed = λ _. removed (kept_in c.args.self.now.files) (kept_in c.remove.new.self) (path_bytes c.args.path)
+  removed = λ alone. when_alone (λ b. Removes (world_by b (kept_in c.args.self.now.files))
+      (world_by b (kept_in c.remove.new.self)) (path_bytes c.args.path)) c.args.self.now.is_alone
+      (removed (kept_in c.args.self.now.files) (kept_in c.remove.new.self) (path_bytes c.args.path)
       (taken_out c.as_str.result.now (path_bytes c.args.path) c.args.self.now.files c.remove.new.self c.as_str.ensures
-      c.remove.ensures.updates);
+      c.remove.ensures.updates)) alone;
   unmoved = tt;
   succeeds = search rules;
   alone = search rules;
