@@ -4,7 +4,7 @@ use gix_index::entry::{FileTime, Flags, Mode, Stage, Stat};
 use gix_index::file::{init, lock, write};
 use gix_index::hash::{Kind, ObjectId};
 use gix_index::write::Options;
-use gix_index::{File, State, decode};
+use gix_index::{BitFlags as _, File, State, decode};
 use index_shelf::{Fault, Kept, Shelf, Steps};
 use std::alloc::{AllocError, Global};
 use std::cell::Cell;
@@ -319,16 +319,22 @@ fn a_fault_names_the_file_that_is_read(rt: HostRuntime) -> Result<(), Fail> {
     Ok(())
 }
 
-/// Whether the index on a shelf was locked, and written to the disk before it was put there where that is wanted.
-fn is_committed(shelf: &mut Shelf<'_>, alloc: Global, is_synced: bool) -> bool {
+/// Whether the index on a shelf was locked, had two entries, of which each had the new flags or none had, and was written
+/// with them, to the disk before it was put there where that is wanted. A second lock has to be refused meanwhile.
+fn is_committed(shelf: &mut Shelf<'_>, alloc: Global, is_new: bool, is_synced: bool) -> bool {
     let Ok(path) = PathBuf::from_str(alloc, "index") else {
         return false;
     };
     let options = decode::Options::default();
-    let Ok(locked) = File::lock(shelf, alloc, path, Kind::Sha1, false, options, false) else {
+    let Ok(mut locked) = File::lock(shelf, alloc, path, Kind::Sha1, false, options, false) else {
         return false;
     };
     let is_held = is_held(shelf, alloc);
+    let mut is_read = locked.file.entries().len() == 2;
+    for entry in locked.file.entries_mut() {
+        is_read &= entry.flags.contains(NEW) == is_new;
+        entry.flags = NEW;
+    }
     if locked
         .commit(shelf, alloc, Options::default(), is_synced)
         .is_err()
@@ -336,7 +342,7 @@ fn is_committed(shelf: &mut Shelf<'_>, alloc: Global, is_synced: bool) -> bool {
         return false;
     }
     match shelf.file(Path::new("index")) {
-        Some(kept) => is_held && kept.is_durable == is_synced,
+        Some(kept) => is_held && is_read && kept.is_durable == is_synced,
         None => false,
     }
 }
@@ -362,8 +368,10 @@ fn a_second_lock_is_refused_till_the_first_is_gone(rt: HostRuntime) -> Result<()
         fault: Fault::Never,
     };
     let bytes = bytes_of(alloc, OLD, Options::default())?;
-    let mut shelf = shelf_with(alloc, steps, &bytes)?;
-    assert!(rt; is_committed(&mut shelf, alloc, false));
-    assert!(rt; is_committed(&mut shelf, alloc, true));
+    let mut alone = shelf_with(alloc, steps, &bytes)?;
+    assert!(rt; is_committed(&mut alone, alloc, false, true));
+    let mut shared = shelf_with(alloc, steps, &bytes)?.shared();
+    assert!(rt; is_committed(&mut shared, alloc, false, false));
+    assert!(rt; is_committed(&mut shared, alloc, true, true));
     Ok(())
 }
