@@ -1,16 +1,19 @@
 """What was seen refused: refusals/seen has two sums of each edit that was, over all that the verdict stands on.
 
-The one is of the edit, whether it is right, and which function has to refuse it, and of the crate's own sources, specs
-and proofs. The other is of what the crates below state: their specs, and their sources without the bodies of functions
-and without private ones. Comments count nowhere, and of the crates below no private imports.
+The one is of the edit, whether it is right, and which function has to refuse it, and of what it stands on in its own
+crate: the files that it changes and those that name a function that it changes, with their proofs; what states the
+functions and types that these name; and the definitions and lemmas that all these cite, and these in turn. The other is
+of what the crates below state: their specs, and their sources without the bodies of functions and without private ones.
+Comments count nowhere, and of the crates below no private imports.
 """
 
+import collections
 import hashlib
 import os
 import re
 from typing import NamedTuple
 
-from judge import functions_in, texts_of
+from judge import Sources, functions_in, texts_of
 
 FILE = "refusals/seen"
 # Of the edits that needn't be judged, the share that a run judges all the same: so many as one of so many of all.
@@ -18,6 +21,9 @@ AGAIN = 20
 COMMENT = re.compile(r"\s*(//|--)")
 IMPORT = re.compile(r"\s*use ")
 PUBLIC = re.compile(r"\s*pub\b")
+# A definition or a lemma of a crate, as a spec or a proof names it, and one of its own, as code names it.
+CITED = re.compile(r"\bRattle\.(\w+)\.(specs|proofs)((?:\.[\w-]+)+)")
+OWN = re.compile(r"\bcrate::(specs|proofs)((?:::\w+)+)")
 
 
 def sum_of(*parts):
@@ -53,6 +59,74 @@ def stated_in(text):
     return "\n".join(line for line in kept if line.strip())
 
 
+class Reach:
+    """What verdicts on the edits of one crate stand on in that crate."""
+
+    def __init__(self, folder, crate):
+        self.crate, self.texts, self.sources, self.sums = crate, {}, Sources(folder), {}
+        for part in ("src", "specs", "proofs"):
+            self.texts |= {file: without_comments(text) for file, text in texts_of(folder, f"{part}/**/*.*").items()}
+        # (what a file states has its own name beside the file)
+        self.stated = {f"stated/{file}": stated_in(text) for file, text in self.sources.texts.items()}
+        self.calls = collections.defaultdict(set)
+        for it in self.sources.functions:
+            self.calls[it.name].add(f"stated/{it.file}")
+
+    def proofs_of(self, file):
+        """The proofs of the functions of a file of src/: those of a root file stand in folders of their names."""
+        module = file[len("src/") : -len(".rt")]
+        names = [it.name for it in self.sources.functions if it.file == file]
+        folders = [f"proofs/{it}/" for it in (names if module in ("lib", "main") else [module])]
+        return {it for it in self.texts if it.startswith(tuple(folders))}
+
+    def file_of(self, part, names):
+        """The file of definitions or lemmas, or what states a type, that these names lead to."""
+        if names[0] == "declared":
+            part, names, ending, files = "stated/src", names[1:], ".rt", self.stated
+        else:
+            ending, files = ".antt", self.texts
+        every = (f"{part}/{'/'.join(names[:end])}{ending}" for end in range(len(names), 0, -1))
+        return next((it for it in every if it in files), "stated/src/lib.rt")
+
+    def cited(self, text):
+        """The files of definitions and lemmas that a text names."""
+        for crate, part, path in CITED.findall(text):
+            if crate == self.crate:
+                yield self.file_of(part, path.split(".")[1:])
+        for part, path in OWN.findall(text):
+            yield self.file_of(part, path.split("::")[1:])
+
+    def next_of(self, file):
+        """What a file leads to: what it cites, and for code its proofs and what states the functions that it names."""
+        if file.startswith("stated/"):
+            return self.cited(self.texts.get(file[len("stated/") :], ""))
+        if not file.startswith("src/"):
+            return self.cited(self.texts[file])
+        text = self.texts[file]
+        stated = (it for name in set(re.findall(r"\w+", text)) for it in self.calls.get(name, ()))
+        return {*self.cited(text), *self.proofs_of(file), *stated}
+
+    def reached(self, files):
+        """The texts of these files and of all that they lead to."""
+        left, found = [*files, "stated/src/lib.rt", "stated/src/main.rt"], {}
+        while left:
+            file = left.pop()
+            if file not in found:
+                found[file] = self.stated.get(file, self.texts.get(file, ""))
+                left.extend(self.next_of(file))
+        return found
+
+    def of(self, edit):
+        """The sum of what the verdict on an edit stands on."""
+        names = {it.name for it in self.sources.changed(edit)}
+        own = {file for file, _, _ in edit.pairs}
+        named = re.compile(rf"\b(?:{'|'.join(sorted(map(re.escape, names))) or '$^'})\b")
+        files = frozenset(it for it in self.sources.texts if it in own or named.search(self.texts[it]))
+        if files not in self.sums:
+            self.sums[files] = sum_of_files(self.reached(files))
+        return self.sums[files]
+
+
 class Sum(NamedTuple):
     """The two sums of an edit."""
 
@@ -66,13 +140,10 @@ class Sums:
     def __init__(self, root, below):
         self.root, self.below, self.own, self.stated, self.under = root, below, {}, {}, {}
 
-    def of_own(self, crate):
-        if crate not in self.own:
-            folder, found = f"{self.root}/crates/{crate}", {}
-            for part in ("src", "specs", "proofs"):
-                found |= texts_of(folder, f"{part}/**/*.*")
-            self.own[crate] = sum_of_files(found)
-        return self.own[crate]
+    def of_own(self, edit):
+        if edit.crate not in self.own:
+            self.own[edit.crate] = Reach(f"{self.root}/crates/{edit.crate}", edit.crate)
+        return self.own[edit.crate].of(edit)
 
     def of_stated(self, crate):
         if crate not in self.stated:
@@ -89,7 +160,7 @@ class Sums:
         return self.under[crate]
 
     def of(self, edit):
-        own = sum_of(str(edit.is_right), edit.at or "", repr(edit.pairs), self.of_own(edit.crate))
+        own = sum_of(str(edit.is_right), edit.at or "", repr(edit.pairs), self.of_own(edit))
         return Sum(own, self.of_below(edit.crate))
 
 
@@ -131,7 +202,7 @@ def in_turn(crates, turn, waiting, room):
 
 
 def due(root, below, edits):
-    """The edits that are to be judged: those that aren't as they were seen, or whose crate isn't; and others in turn.
+    """The edits that are to be judged: those that aren't as they were seen, or stand on something else; and others.
 
     Where crates below state something else, an edit waits for its turn. The crates whose turn it is change with each
     change of what the sums are of. None has its turn where at least as many edits have changed as would be judged in
