@@ -1,13 +1,6 @@
 """The places of crates in a graph of rows: each crate above those that it uses."""
 
 
-def crates_of(text):
-    """The crates that are listed, each with those of the list that it uses."""
-    lines = [line.split("#")[0] for line in text.splitlines()]
-    uses = {name.split()[0]: rest.split() for name, _, rest in (line.partition(":") for line in lines) if name.strip()}
-    return {name: [used for used in rest if used in uses] for name, rest in uses.items()}
-
-
 def levels_of(crates):
     """For each crate how many uses lie below it at most."""
     levels = {}

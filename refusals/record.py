@@ -1,41 +1,36 @@
 """What was seen refused: refusals/seen has two sums of each edit that was, over all that the verdict stands on.
 
 The one is of the edit, whether it is right, and which function has to refuse it, and of what it stands on in its own
-crate: the files that it changes and those that name a function that it changes, with their proofs; what states the
-functions and types that these name; and the definitions and lemmas that all these cite, and these in turn. The other is
-of what the crates below state: their specs, and their sources without the bodies of functions and without private ones.
-Comments count nowhere, and of the crates below no private imports.
+crate. That is the text of the functions that it changes and of those that name one of these, with their proofs; what
+states the functions, types and constants that these texts and the edit name; and the definitions and lemmas that all
+these cite, and these in turn. So a body counts for edits of its function and of those that it calls, and a contract for
+edits of the callers too. Where an edit changes no function, all of its file that lies in none counts, and the functions
+that name what is changed.
+The other is of what the crates below state: their specs, and their sources without the bodies of functions and without
+private ones. Blank lines, comments, imports and `mod` items count nowhere. So it isn't seen where an import brings
+another item of the same name, unless both are definitions or lemmas of the edit's own crate.
 """
 
 import collections
-import hashlib
 import os
 import re
 from typing import NamedTuple
 
-from judge import Sources, functions_in, texts_of
+from judge import Sources, Unusable, block_name, functions_in, texts_of
+from pieces import COMMENT, IMPORT, Code, Definitions, Piece, counted, joined, lines_of, sum_of
 
 FILE = "refusals/seen"
 # Of the edits that needn't be judged, the share that a run judges all the same: so many as one of so many of all.
 AGAIN = 20
-COMMENT = re.compile(r"\s*(//|--)")
-IMPORT = re.compile(r"\s*use ")
 PUBLIC = re.compile(r"\s*pub\b")
-# A definition or a lemma of a crate, as a spec or a proof names it, and one of its own, as code names it.
-CITED = re.compile(r"\bRattle\.(\w+)\.(specs|proofs)((?:\.[\w-]+)+)")
-OWN = re.compile(r"\bcrate::(specs|proofs)((?:::\w+)+)")
-
-
-def sum_of(*parts):
-    return hashlib.sha256("\0".join(parts).encode()).hexdigest()[:16]
-
-
-def without_comments(text):
-    return "\n".join(it for it in text.split("\n") if not COMMENT.match(it))
+RENAMED = re.compile(r"(\w+) as (\w+)")
+# A definition or a lemma by its path, and a function's proof.
+PATH = re.compile(r"\b(?:crate::(?:specs|proofs)(?:::\w+)+|Rattle\.\w+\.(?:specs|proofs)(?:\.[\w-]+)+)")
+PROOF = re.compile(r"proofs/(?:(.*)/)?([^/]+)/(?:Answers|Invariants|Proof)\.antt")
 
 
 def sum_of_files(texts):
-    return sum_of(*[it for file in sorted(texts) for it in (file, without_comments(texts[file]))])
+    return sum_of(*[it for file in sorted(texts) if texts[file] for it in (file, texts[file])])
 
 
 def is_private(function, lines):
@@ -45,86 +40,140 @@ def is_private(function, lines):
 
 
 def stated_in(text):
-    """The text of a formatted file without private functions, what stands in others, and private imports."""
-    lines, left_out = text.split("\n"), set()
+    """The text of a formatted file without private functions, and what stands in others."""
+    lines, left_out = counted(text).split("\n"), set()
     for it in functions_in("", text):
-        own = lines[it.first - 1 : it.last]
-        indent = re.match(r"\s*", own[-1])[0]
-        opening = next((at for at, line in enumerate(own) if line == f"{indent}{{"), None)
-        if is_private(it, own):
-            left_out.update(range(it.first - 1, it.last))
-        elif opening is not None and own[-1] == f"{indent}}}":
-            left_out.update(range(it.first + opening, it.last))
-    kept = (line for number, line in enumerate(lines) if number not in left_out and not IMPORT.match(line))
-    return "\n".join(line for line in kept if line.strip())
+        own, body = lines_of(it, lines)
+        left_out.update(own if is_private(it, [lines[at - 1] for at in own]) else body)
+    return joined(line for number, line in enumerate(lines, 1) if number not in left_out)
 
 
 class Reach:
     """What verdicts on the edits of one crate stand on in that crate."""
 
     def __init__(self, folder, crate):
-        self.crate, self.texts, self.sources, self.sums = crate, {}, Sources(folder), {}
-        for part in ("src", "specs", "proofs"):
-            self.texts |= {file: without_comments(text) for file, text in texts_of(folder, f"{part}/**/*.*").items()}
-        # (what a file states has its own name beside the file)
-        self.stated = {f"stated/{file}": stated_in(text) for file, text in self.sources.texts.items()}
-        self.calls = collections.defaultdict(set)
-        for it in self.sources.functions:
-            self.calls[it.name].add(f"stated/{it.file}")
+        self.crate, self.sources, self.next = crate, Sources(folder), {}
+        texts = texts_of(folder, "specs/**/*.antt") | texts_of(folder, "proofs/**/*.antt")
+        self.code, self.definitions = Code(self.sources), Definitions(texts)
+        every = {**self.sources.texts, **texts}
+        self.imports = {file: self.imports_of(text) for file, text in every.items()}
+        self.renamed = {file: self.renamed_in(text) for file, text in self.sources.texts.items()}
+        self.proofs, self.owners = collections.defaultdict(set), collections.defaultdict(set)
+        self.add_proofs()
 
-    def proofs_of(self, file):
-        """The proofs of the functions of a file of src/: those of a root file stand in folders of their names."""
-        module = file[len("src/") : -len(".rt")]
-        names = [it.name for it in self.sources.functions if it.file == file]
-        folders = [f"proofs/{it}/" for it in (names if module in ("lib", "main") else [module])]
-        return {it for it in self.texts if it.startswith(tuple(folders))}
+    def place(self, path):
+        """The part of the crate and the names that a path leads to; nothing where it leads to another crate."""
+        words = [it for it in re.split(r"\.|::", path) if it]
+        own = words[1:] if words[0] == "crate" else words[2:] if words[:2] == ["Rattle", self.crate] else []
+        return (own[0], tuple(own[1:])) if own and own[0] in ("specs", "proofs") else None
 
-    def file_of(self, part, names):
-        """The file of definitions or lemmas, or what states a type, that these names lead to."""
-        if names[0] == "declared":
-            part, names, ending, files = "stated/src", names[1:], ".rt", self.stated
-        else:
-            ending, files = ".antt", self.texts
-        every = (f"{part}/{'/'.join(names[:end])}{ending}" for end in range(len(names), 0, -1))
-        return next((it for it in every if it in files), "stated/src/lib.rt")
+    def imports_of(self, text):
+        """The places that a file's names of definitions, lemmas and modules lead to; one may be of code too."""
+        found = collections.defaultdict(set)
+        for it in IMPORT.finditer(COMMENT.sub("", text)):
+            place = self.place(it["path"] or "-")
+            if it["names"] is None and it["path"]:
+                found[it["alias"] or re.split(r"\.|::", it["path"])[-1]].add(place)
+            for name in (it["names"] or "").split(","):
+                name, _, alias = name.strip().partition(" as ")
+                found[alias or name].add(place and (place[0], (*place[1], name)))
+        return dict(found)
 
-    def cited(self, text):
-        """The files of definitions and lemmas that a text names."""
-        for crate, part, path in CITED.findall(text):
-            if crate == self.crate:
-                yield self.file_of(part, path.split(".")[1:])
-        for part, path in OWN.findall(text):
-            yield self.file_of(part, path.split("::")[1:])
+    def renamed_in(self, text):
+        """What a file's imports call by another name."""
+        its = (RENAMED.findall(it[0]) for it in IMPORT.finditer(COMMENT.sub("", text)))
+        return {alias: name for found in its for name, alias in found}
 
-    def next_of(self, file):
-        """What a file leads to: what it cites, and for code its proofs and what states the functions that it names."""
-        if file.startswith("stated/"):
-            return self.cited(self.texts.get(file[len("stated/") :], ""))
-        if not file.startswith("src/"):
-            return self.cited(self.texts[file])
-        text = self.texts[file]
-        stated = (it for name in set(re.findall(r"\w+", text)) for it in self.calls.get(name, ()))
-        return {*self.cited(text), *self.proofs_of(file), *stated}
+    def add_proofs(self):
+        """Finds the proofs of each function, in folders of its name or its cycle's; one of no such name is of all."""
+        for file in self.definitions.items:
+            match = PROOF.fullmatch(file)
+            if match:
+                name, whole = match[2].removeprefix("+"), self.code.whole
+                owners = [it for it in whole if it.name == name or f"#[cycle({name})]" in whole[it].text]
+                exact = [it for it in owners if self.is_above(it, match[1] or "")]
+                for it in exact or owners or whole:
+                    self.proofs[it] |= self.definitions.all_of(file)
+                    self.owners[file.rpartition("/")[0]].add(whole[it])
 
-    def reached(self, files):
-        """The texts of these files and of all that they lead to."""
-        left, found = [*files, "stated/src/lib.rt", "stated/src/main.rt"], {}
+    def is_above(self, function, folder):
+        """Whether the function's module and type lie in that folder, or where else the type may stand."""
+        module = re.sub(r"\Asrc/|(?:/mod)?\.rt\Z", "", function.file)
+        above = [] if module in ("lib", "main") else [module]
+        block = block_name(function.block) if function.block else ""
+        own = "/".join([*above, *([block] if block else [])])
+        return folder in (own, block or own) or bool(block) and folder.endswith(f"/{block}")
+
+    def led_to(self, place, words):
+        """The definitions and lemmas at a place, for a text with these words."""
+        if place is None:
+            return set()
+        part, names = place
+        file, left = self.definitions.file_of(part, names)
+        passed = self.imports.get(file or f"{part}/Lib.antt", {})
+        on = {place for it in (left if file else left[:1]) for place in passed.get(it, ())}
+        found = {it for place in on for it in self.led_to(place, words)}
+        if file is None:
+            folders = ("/".join([part, *names[:end]]) for end in range(len(names), 0, -1))
+            own = next((self.owners[it] for it in folders if it in self.owners), None)
+            return found if on else own or self.code.generated(names, words)
+        found |= {it for name in left for it in self.definitions.items[file].get(name, ())}
+        return found if found or on else self.definitions.all_of(file)
+
+    def next_of(self, piece):
+        """What a piece leads to: what its words name, and from a function its proofs."""
+        words, imports = piece.words, self.imports[piece.file]
+        # (an import of an operator has signs in the place of its arguments)
+        operators = {it for it in imports if "◌" in it and any(sign in piece.text for sign in it.split("◌") if sign)}
+        places = {place for it in words & imports.keys() | operators for place in imports[it]}
+        places |= {self.place(it) for it in PATH.findall(piece.text)}
+        found = {it for place in places for it in self.led_to(place, words)}
+        if piece.file in self.definitions.items:
+            return found | {it for word in words for it in self.definitions.items[piece.file].get(word, ())}
+        words = words | {self.renamed[piece.file].get(it, it) for it in words}
+        for pieces in (self.code.items, self.code.stated) if piece.names_functions else (self.code.items,):
+            found |= {it for word in words for it in pieces.get(word, ())}
+        return found | self.proofs.get(piece.function, set())
+
+    def reached(self, pieces):
+        """These pieces, and all that they lead to."""
+        left, found = list(pieces), set()
         while left:
-            file = left.pop()
-            if file not in found:
-                found[file] = self.stated.get(file, self.texts.get(file, ""))
-                left.extend(self.next_of(file))
+            piece = left.pop()
+            if piece not in found:
+                found.add(piece)
+                if piece not in self.next:
+                    self.next[piece] = self.next_of(piece)
+                left.extend(self.next[piece] - found)
         return found
 
+    def changed(self, edit):
+        """The functions that an edit changes or asks, or that name what it changes else; and what it changes else."""
+        functions, items, texts = self.sources.tried_by(edit), set(), {}
+        for file, old, new in edit.pairs:
+            text = texts.get(file, self.sources.texts[file])
+            line = text.count("\n", 0, text.index(old)) + 1
+            around = self.code.around(file, line)
+            functions |= around
+            if not around:
+                items |= self.code.of_file.get(file, set())
+                names = self.code.declared_at.get((file, line))
+                functions |= self.code.users_of(set(names or ())) or {it for it in self.code.whole if it.file == file}
+            texts[file] = text.replace(old, new)
+        return functions, items
+
     def of(self, edit):
-        """The sum of what the verdict on an edit stands on."""
-        names = {it.name for it in self.sources.changed(edit)}
-        own = {file for file, _, _ in edit.pairs}
-        named = re.compile(rf"\b(?:{'|'.join(sorted(map(re.escape, names))) or '$^'})\b")
-        files = frozenset(it for it in self.sources.texts if it in own or named.search(self.texts[it]))
-        if files not in self.sums:
-            self.sums[files] = sum_of_files(self.reached(files))
-        return self.sums[files]
+        """The sum of what the verdict on an edit stands on; nothing where the edit can't be tried."""
+        try:
+            self.sources.applied(edit, {})
+        except Unusable:
+            return ""
+        functions, items = self.changed(edit)
+        functions = functions | self.code.users_of({self.code.names[it] for it in functions})
+        # (the new text may call what the old one doesn't)
+        new = {Piece(file, text, True) for file, _, text in edit.pairs}
+        pieces = {self.code.whole[it] for it in functions} | items | self.code.items.get("", set()) | new
+        return sum_of(*sorted({it.sum for it in self.reached(pieces)}))
 
 
 class Sum(NamedTuple):
@@ -148,7 +197,7 @@ class Sums:
     def of_stated(self, crate):
         if crate not in self.stated:
             folder = f"{self.root}/crates/{crate}"
-            found = texts_of(folder, "specs/**/*.antt")
+            found = {file: joined(counted(it).split("\n")) for file, it in texts_of(folder, "specs/**/*.antt").items()}
             found |= {file: stated_in(text) for file, text in texts_of(folder, "src/**/*.rt").items()}
             self.stated[crate] = sum_of_files(found)
         return self.stated[crate]

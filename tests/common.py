@@ -3,8 +3,10 @@ import argparse
 import importlib.machinery
 import importlib.util
 import pathlib
+import re
 import subprocess
 import sys
+import tempfile
 
 TOP = pathlib.Path(__file__).resolve().parent.parent
 sys.path.insert(0, str(TOP / "tools"))
@@ -51,6 +53,34 @@ def git(folder, *words, **options):
     if status != 0:
         sys.exit(f"git {' '.join(words)}: {faults.decode(errors='replace')}")
     return out
+
+
+def in_valgrind(tool, words, **options):
+    """What a tool of valgrind says of one run."""
+    counted = ["valgrind", f"--tool={tool}", *map(str, words)]
+    done = subprocess.run(
+        counted, stdin=subprocess.DEVNULL, capture_output=True, text=True, errors="replace", check=False, **options
+    )
+    return done.stderr
+
+
+def steps(words, **options):
+    """The instructions that one run takes, as callgrind counts them."""
+    said = in_valgrind("callgrind", ("--callgrind-out-file=/dev/null", *words), **options)
+    found = re.search(r"Collected : (\d+)", said)
+    if found is None:
+        sys.exit(f"{' '.join(map(str, words))}: {said}")
+    return int(found[1])
+
+
+def peak(words, **options):
+    """How many bytes one run holds at most at one time, as massif counts them."""
+    with tempfile.NamedTemporaryFile("r", prefix="massif-") as out:
+        said = in_valgrind("massif", (f"--massif-out-file={out.name}", "--peak-inaccuracy=0.0", *words), **options)
+        found = [int(line.partition("=")[2]) for line in out if line.startswith("mem_heap_B=")]
+    if not found:
+        sys.exit(f"{' '.join(map(str, words))}: {said}")
+    return max(found)
 
 
 def end(passed, failed):

@@ -6,26 +6,32 @@ import sys
 TOP = pathlib.Path(__file__).resolve().parent.parent
 
 
-def lines():
-    """The line of each crate in crates.txt, without a comment behind it."""
-    texts = [line.partition("#")[0] for line in (TOP / "crates.txt").read_text().splitlines()]
+def lines(top=TOP):
+    """The line of each crate in a repository's crates.txt, without a comment behind it."""
+    whole = pathlib.Path(top, "crates.txt").read_text(encoding="utf-8")
+    texts = [line.partition("#")[0] for line in whole.splitlines()]
     return {text.partition(":")[0].split()[0]: text for text in texts if ":" in text}
 
 
-def listed():
+def listed(top=TOP):
     """The names that each crate uses, those of the kit's libraries among them."""
-    return {crate: line.partition(":")[2].split() for crate, line in lines().items()}
+    return {crate: line.partition(":")[2].split() for crate, line in lines(top).items()}
 
 
-def needed(*crates):
+def own_uses(top=TOP):
+    """The crates of the repository that each crate uses."""
+    uses = listed(top)
+    return {crate: [name for name in names if name in uses] for crate, names in uses.items()}
+
+
+def needed(*crates, top=TOP):
     """The crates and those that they stand on, each behind those that it uses."""
-    uses, found = listed(), {}
+    uses, found = own_uses(top), {}
 
     def visit(name):
         if name not in found:
             for below in uses[name]:
-                if below in uses:
-                    visit(below)
+                visit(below)
             found[name] = True
 
     for crate in crates:

@@ -1,30 +1,10 @@
 """Which crates are proved next, and how many processes work on each."""
-import contextlib
-import os
-import re
-
 from crates import listed, made_of
+from machine import free_memory, processors
 
 # What a proof may take in bytes, and what each further process that works on it may take.
 MEMORY_OF_A_PROOF, MEMORY_OF_A_JOB = 3_000_000_000, 1_500_000_000
 MOST_JOBS = 4
-# What limits the memory of a control group, and how much it uses.
-GROUPS = (("memory.max", "memory.current"), ("memory/memory.limit_in_bytes", "memory/memory.usage_in_bytes"))
-
-
-def processors():
-    return len(os.sched_getaffinity(0))
-
-
-def free_memory():
-    """The bytes that are free, under the limits of a control group too."""
-    with open("/proc/meminfo", encoding="utf-8") as text:
-        free = 1024 * int(re.search(r"MemAvailable:\s+(\d+)", text.read())[1])
-    for limit, used in GROUPS:
-        with contextlib.suppress(OSError, ValueError):
-            numbers = [int(open(f"/sys/fs/cgroup/{each}", encoding="utf-8").read()) for each in (limit, used)]
-            free = min(free, numbers[0] - numbers[1])
-    return free
 
 
 def memory_of(jobs):

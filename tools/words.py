@@ -33,11 +33,12 @@ STRICT = Option(
 )
 # Of each command: what lets words be left out.
 AUTO_KIND = Option(
-    "auto", "a", "KIND may be left out: it is then as the file's own digest tells",
-    "lets KIND be left out: it is then as the file's own digest tells",
+    "auto", "a", "KIND may be left out: the repository or the file's own digest tells it",
+    "lets KIND be left out: the repository or the file's own digest tells it",
 )
 AUTO_BOTH = Option(
-    "auto", "a", "KIND may be left out (the file's own digest tells it), and FILE (that of the work tree)",
+    "auto", "a",
+    "KIND may be left out (the repository or the file's own digest tells it), and FILE (that of the work tree)",
     "lets KIND be left out, and FILE in a work tree",
 )
 # A command: whether it writes, what it does, its line in the help, its options, whether one that writes takes OUT, and

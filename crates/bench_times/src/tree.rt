@@ -1,6 +1,6 @@
 //! The entries of an index that is made of a tree.
 
-ghost use Rattle.std.specs.Prelude.{◌≡◌, ◌<◌, length, None, IfSome};
+ghost use Rattle.std.specs.Prelude.{◌<◌, length, None, IfSome};
 ghost use Rattle.std.specs.BTreeMap.{get};
 ghost use Rattle.std.specs.Iterator.{at_most};
 ghost use Rattle.std.specs.Option.{option_map, unwrap_or};

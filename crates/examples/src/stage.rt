@@ -4,7 +4,7 @@
 //! the repository. The index is locked before it is read. Whatever stood at the path goes, and files where it needs a
 //! folder. All extensions stay that still fit. Nothing is printed.
 
-ghost use Rattle.std.specs.Prelude.{◌≡◌, OnErr, OnOk};
+ghost use Rattle.std.specs.Prelude.{OnErr};
 ghost use Rattle.gix_index.specs.Edits.{IsUnchanged};
 
 use gix_index::change::{ApplyError, Change};

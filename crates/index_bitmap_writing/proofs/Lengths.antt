@@ -5,9 +5,8 @@ use Rattle.std.specs.List.{flat_map}
 use Rattle.std.proofs.lemmas.Bool.{ltb-true, ltb-false, lt-ltb, le-ltb}
 use Rattle.std.proofs.lemmas.List.Folds.{length-flat_map-take}
 use Rattle.std.proofs.lemmas.Option.{same_Some}
-use Rattle.index_cached_tree.specs.TreeWriting.{within_32}
 use Rattle.index_extensions.specs.Encoding.{item_bytes, item_of}
-use Rattle.index_parts.specs.Numbers.{be32}
+use Rattle.index_parts.specs.Numbers.{be32, within_32}
 
 -- ---- the numbers that 32 bits count
 

@@ -2,7 +2,7 @@
 
 ghost use Rattle.std.specs.Prelude.{◌≡◌, ◌+◌, ◌*◌, ◌^◌, ◌<◌, length};
 ghost use Rattle.std.specs.List.{flat_map};
-ghost use Rattle.index_cached_tree.specs.TreeWriting.{within_32};
+ghost use Rattle.index_parts.specs.Numbers.{within_32};
 ghost use Rattle.index_bitmaps.specs.Bitmap.{bitmap};
 ghost use Rattle.index_parts.specs.Puts.{Puts};
 ghost use Rattle.index_bitmap_writing.specs.BitmapImage.{be64, bitmap_bytes, last_run, lent_bitmap};

@@ -1,11 +1,12 @@
 //! Numbers, texts, and the head of an extension.
 
-ghost use Rattle.std.specs.Prelude.{◌≡◌, ◌++◌, [], ◌∷◌};
+ghost use Rattle.std.specs.Prelude.{◌++◌, [], ◌∷◌};
 ghost use Rattle.index_parts.specs.Numbers.{be32};
 ghost use Rattle.index_parts.specs.Puts.{Puts};
 ghost use Rattle.index_bitmap_writing.specs.BitmapImage.{be64};
 
 use index_extensions::Signature;
+use index_extensions::head::item_head;
 use index_parts::hash::io::Out;
 use std::io;
 
@@ -30,18 +31,9 @@ pub fn put_text<W: Out>(text: &[u8], out: &mut W) -> io::Result<()>
     out.put_each(&[text, b"\0"])
 }
 
-/// The eight bytes before the content of an extension.
-fn head(signature: Signature, len: u32) -> [u8; 8]
-    ensures { result ≡ signature ++ be32 len }
-{
-    let [a, b, c, d] = signature;
-    let [e, f, g, h] = len.to_be_bytes();
-    [a, b, c, d, e, f, g, h]
-}
-
 /// Writes what stands before the content of an extension: its signature, and the length of the content.
 pub fn put_head<W: Out>(signature: Signature, len: u32, out: &mut W) -> io::Result<()>
     ensures { Puts W.Out out.old out.new result (signature ++ be32 len) }
 {
-    out.put(&head(signature, len))
+    out.put(&item_head(signature, len))
 }

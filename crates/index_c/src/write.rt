@@ -6,7 +6,7 @@ ghost use Rattle.index_c.specs.Written.{Asks, HasWrongNumber, Tells, TellsOver, 
 
 use gix_index::file;
 use index_numbers::fault::{number_of_error, number_of_table, status_of_error};
-use index_numbers::number::{OWN, choice_of, kind_of, number_of_tree, number_of_version};
+use index_numbers::number::{OWN, choice_of, kind_of, number_of_tree};
 use index_numbers::status::{DONE, MEMORY, NO_ROOM, REFUSED, WRONG_NUMBER};
 use index_table::over::{CachedTree, Replacement, write_over};
 use index_table::row::Row;
@@ -63,7 +63,7 @@ fn told_of_image(image: &Image, tree: CachedTree) -> Written
         bytes: image.bytes,
         fault_place: 0,
         fault: 0,
-        version: number_of_version(image.version),
+        version: image.version as u32,
         tree: number_of_tree(tree),
         of_shared: OWN,
     }

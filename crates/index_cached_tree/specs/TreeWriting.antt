@@ -1,6 +1,5 @@
--- What became of a writer (`std::io::Write`) that a cached tree was written to, and the sizes that 32 bits count
--- (gitformat-index, "Extensions").
-use Rattle.std.specs.Prelude.{◌≡◌, ℕ, ◌-◌, ◌^◌, nat_lt, Bool, true, false, List, Option, Some, None, Result, Ok, Err}
+-- What became of a writer (`std::io::Write`) that a cached tree was written to, and what is left of a room.
+use Rattle.std.specs.Prelude.{◌≡◌, ℕ, ◌-◌, nat_lt, Bool, true, false, List, Option, Some, None, Result, Ok, Err}
 use Rattle.std.specs.Prelude.{MatchResult, if◌then◌else◌}
 use Rattle.index_parts.specs.declared.hash.Kind.{Kind}
 use Rattle.index_parts.specs.Taking.{AppendsPrefix, Took}
@@ -25,10 +24,6 @@ abbrev pub is_io : {T : Type 0} → Result T Error → Bool
 is_io (Ok x) = false
 is_io (Err (errors.Io e)) = true
 is_io (Err errors.TooLarge) = false
-
--- the number where it has at most 32 bits
-abbrev pub within_32 : ℕ → Option ℕ
-within_32 n = if nat_lt n (2 ^ 32) then Some n else None
 
 -- what is left of so much room behind so many bytes
 abbrev pub room_left : ℕ → ℕ → Option ℕ

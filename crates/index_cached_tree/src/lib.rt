@@ -16,6 +16,7 @@ mod decimal;
 pub mod git_order;
 mod head;
 mod nodes;
+pub mod order;
 mod storable;
 pub mod verify;
 pub mod write;

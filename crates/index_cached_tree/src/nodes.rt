@@ -3,22 +3,15 @@
 ghost use Rattle.std.specs.List.Sorted.{IsPermutation};
 ghost use Rattle.std.specs.Prelude.{◌≡◌, ◌≤◌, ◌+◌, ℕ, length, max, false, List, [], ◌∷◌, ◌++◌, map, IsTrue, IfOk, IfErr, IfSome, IfNone};
 ghost use Rattle.std.specs.Vec.{vec_capacity};
-ghost use Rattle.index_cached_tree.specs.Tree.{Node, node, nodes_from, node_of, name_cmp, NamesRise, IsNode};
+ghost use Rattle.index_cached_tree.specs.Tree.{Node, node, nodes_from, node_of, NamesRise, IsNode};
 ghost use Rattle.index_cached_tree.specs.Tree.{HasNodeHead};
 
 use super::Tree;
 use super::head::{NodeHead, roomy_head_of};
+use super::order::compare_names;
 use index_parts::hash::Kind;
 use smallvec::SmallVec;
 use std::alloc::{AllocError, Global};
-use std::cmp::Ordering;
-
-/// The order of two nodes by the bytes of their names.
-pub(super) fn compare_names(a: &Tree, b: &Tree) -> Ordering
-    ensures { result ≡ name_cmp (node_of a.now) (node_of b.now) }
-{
-    a.name.as_slice().cmp(&b.name.as_slice())
-}
 
 /// Sorts siblings by name, and says whether their names are apart.
 fn sort_siblings(siblings: &mut Vec<Tree>) -> bool

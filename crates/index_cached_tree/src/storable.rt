@@ -1,16 +1,15 @@
 //! Whether bytes can hold a cached tree.
 
-ghost use Rattle.std.specs.Prelude.{◌≡◌, ◌≢◌, ◌↔◌, ◌<◌, ◌^◌, All, length, map, None, IfSome, IsTrue};
+ghost use Rattle.std.specs.Prelude.{◌≢◌, ◌↔◌, ◌<◌, ◌^◌, All, map, None, IfSome, IsTrue};
 ghost use Rattle.std.specs.Option.{option_map};
-ghost use Rattle.index_parts.specs.Id.{id_bytes, id_kind, id_len};
 ghost use Rattle.index_cached_tree.specs.Sound.{RiseFrom};
 ghost use Rattle.index_cached_tree.specs.StorableSteps.{AreApart, IsAbove, IsPlainHead, IsStorableWithin};
 ghost use Rattle.index_cached_tree.specs.StoredTree.{IsApartFrom, IsStorableTree};
 ghost use Rattle.index_cached_tree.specs.Tree.{node_of, nodes_from};
 
-use super::nodes::compare_names;
+use super::order::compare_names;
 use super::{MAX_LEVELS, Tree};
-use index_parts::hash::{Kind, ObjectId};
+use index_parts::hash::Kind;
 
 /// Whether no byte of the name is a NUL.
 fn lacks_nul(name: &[u8]) -> bool
@@ -26,19 +25,11 @@ fn is_small(count: Option<u32>) -> bool
     count.unwrap_or(0) < 1 << 31
 }
 
-/// Whether the id has as many bytes as those of the kind, and so is of it.
-fn is_of(id: &ObjectId, kind: Kind) -> bool
-    ensures same { IsTrue result ↔ id_kind id.now ≡ kind }
-    ensures len { length (id_bytes id.now) ≡ id_len (id_kind id.now) }
-{
-    id.as_bytes().len() == kind.len_in_bytes()
-}
-
 /// Whether bytes can hold what the node says of itself.
 fn has_plain_head(tree: &Tree, kind: Kind) -> bool
     ensures { IsTrue result ↔ IsPlainHead kind (node_of tree.now) }
 {
-    lacks_nul(tree.name.as_slice()) && is_small(tree.num_entries) && is_of(&tree.id, kind)
+    lacks_nul(tree.name.as_slice()) && is_small(tree.num_entries) && tree.id.is_of_kind(kind)
 }
 
 /// Whether the name is above the one before, where there is one.

@@ -1,18 +1,18 @@
 //! Whether a cached tree holds together.
 
-ghost use Rattle.std.specs.Prelude.{◌≡◌, ◌↔◌, ℕ, false, Option, Some, None, IfOk, IfErr, IsOk, IsTrue, map};
+ghost use Rattle.std.specs.Prelude.{◌≡◌, ◌↔◌, false, Option, Some, None, IfOk, IfErr, IsOk, IsTrue, map};
 ghost use Rattle.std.specs.Option.{option_map};
 ghost use Rattle.index_cached_tree.specs.Agreement.{Trees, AreTrees};
 ghost use Rattle.index_cached_tree.specs.ObjectSteps.{AreLooked, SaysBy};
-ghost use Rattle.index_cached_tree.specs.Sound.{counted_entries, entries_sum, RiseFrom, IsSoundTree, CountsAtMost};
-ghost use Rattle.index_cached_tree.specs.TreeFaults.{name_fault, sum_fault, order_fault, count_fault, row_fault};
+ghost use Rattle.index_cached_tree.specs.Sound.{entries_sum, RiseFrom, IsSoundTree, CountsAtMost};
+ghost use Rattle.index_cached_tree.specs.TreeFaults.{name_fault, order_fault, count_fault, row_fault};
 ghost use Rattle.index_cached_tree.specs.TreeFaults.{object_fault, node_fault, tree_fault, excess_fault, excess_in};
 ghost use Rattle.index_cached_tree.specs.TreeFaults.{Judges, SaysTree};
 ghost use Rattle.index_cached_tree.specs.Tree.{node_of, nodes_from};
 ghost use Rattle.index_cached_tree.specs.declared.verify.Error.TheVariants.{Memory};
 
 use super::Tree;
-use super::nodes::compare_names;
+use super::order::compare_names;
 use bstr::BString;
 use index_objects::object::Find;
 use index_parts::hash::ObjectId;

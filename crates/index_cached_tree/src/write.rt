@@ -1,19 +1,20 @@
 //! Writing a cached tree as an extension.
 
-ghost use Rattle.std.specs.Prelude.{◌≡◌, ◌↔◌, ◌≤◌, ◌<◌, ◌^◌, ◌+◌, ◌++◌, ℕ, List, length, take, map, true, false};
-ghost use Rattle.std.specs.Prelude.{is_err, ◌||◌};
+ghost use Rattle.std.specs.Prelude.{◌≡◌, ◌↔◌, ◌≤◌, ◌<◌, ◌^◌, ◌+◌, ◌++◌, length, take};
+ghost use Rattle.std.specs.Prelude.{◌||◌};
 ghost use Rattle.std.specs.List.{flat_map};
 ghost use Rattle.index_parts.specs.Puts.{Puts};
 ghost use Rattle.index_extensions.specs.Encoding.{item_bytes};
-ghost use Rattle.index_parts.specs.Numbers.{be32};
+ghost use Rattle.index_parts.specs.Numbers.{within_32};
 ghost use Rattle.index_cached_tree.specs.TreeImage.{tree_item};
 ghost use Rattle.index_cached_tree.specs.Tree.{node_of};
 ghost use Rattle.index_cached_tree.specs.TreeImage.{count_bytes, id_part, behind_name, node_head_bytes, node_bytes};
-ghost use Rattle.index_cached_tree.specs.TreeWriting.{WritesTree, is_io, within_32, room_left};
+ghost use Rattle.index_cached_tree.specs.TreeWriting.{WritesTree, is_io, room_left};
 ghost use Rattle.index_cached_tree.specs.declared.write.Error.TheVariants.{Io};
 ghost use Rattle.index_cached_tree.specs.declared.Tree.TheViews.{out-Tree};
 
 use super::{SIGNATURE, Tree};
+use index_extensions::head::item_head;
 use index_parts::hash::io::Out;
 use itoa::Buffer;
 use std::io;
@@ -173,15 +174,6 @@ fn room_behind_all(trees: &[Tree], room: u64) -> Option<u64>
         left = rest;
     }
     Some(left)
-}
-
-/// The eight bytes before the content of an extension.
-pub(super) fn item_head(signature: [u8; 4], len: u32) -> [u8; 8]
-    ensures { result ≡ signature ++ be32 len }
-{
-    let [a, b, c, d] = signature;
-    let [e, f, g, h] = len.to_be_bytes();
-    [a, b, c, d, e, f, g, h]
 }
 
 /// Writes the tree as [`Tree::write_to`] does. Its content has this length, which [`Tree::content_len`] counts. An

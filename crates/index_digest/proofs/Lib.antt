@@ -1,6 +1,4 @@
 mod Absorbing
-mod Absorbing256
-mod Chaining256
 mod Compressing
 mod Functions
 mod Functions256

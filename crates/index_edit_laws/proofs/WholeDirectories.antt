@@ -1,22 +1,20 @@
 -- Whole directories, and what changes put beside them.
-use Rattle.std.proofs.Common.{◌≡◌, ◌≢◌, ℕ, suc, ◌-◌, ◌==◌, Bool, true, false, cond, List, [], ◌∷◌, ◌++◌, length, get_or}
+use Rattle.std.proofs.Common.{◌≡◌, ℕ, suc, ◌-◌, ◌==◌, Bool, true, false, cond, List, [], ◌∷◌, ◌++◌, length, get_or}
 use Rattle.std.proofs.Common.{Option, Some, None, refl, sym, ap, subst, ◌∙◌, arith, length-append, All}
-use Rattle.std.specs.Prelude.{position}
-use Rattle.std.specs.List.{Contains, list_any}
+use Rattle.std.specs.List.{Contains}
 use Rattle.std.proofs.lemmas.List.Folds.{list_any_at}
 use Rattle.std.proofs.lemmas.List.Sums.{fails_before_first}
 use Rattle.index_parts.specs.declared.hash.Kind.{Kind}
 use Rattle.index_objects.specs.Mode.{commit_mode, directory_mode, executable_mode, file_mode, link_mode, named_kind}
 use Rattle.index_objects.specs.declared.object.tree.EntryKind.{EntryKind}
 use Rattle.index_objects.specs.declared.object.tree.EntryKind.TheVariants as kinds
-use Rattle.index_entries.specs.Record.{Record, with_path}
+use Rattle.index_entries.specs.Record.{Record}
 use Rattle.index_entries.specs.declared.Pathless.{Pathless}
 use Rattle.index_edits.specs.Changes.{path_of}
 use Rattle.index_edits.specs.Refusals.{Check, fault_as, fault_of, path_fault}
 use Rattle.index_edits.specs.Wholes.{first_in_whole, is_around, lies_in_whole}
 use Rattle.index_edits.specs.declared.change.Change.{Change}
 use Rattle.index_edits.specs.declared.change.Change.TheVariants as changes
-use Rattle.index_edits.specs.declared.error.Error.{Error}
 use Rattle.index_edits.specs.declared.error.Error.TheVariants as errors
 use Rattle.index_edits.proofs.Whys.{neither}
 use Rattle.index_edits.proofs.Swaps.{IsNew}

@@ -2,7 +2,6 @@
 use Rattle.std.proofs.Common.{◌≡◌, ℕ, suc, ◌+◌, ◌-◌, ◌≤◌, List, [], ◌∷◌, All, Option, Some, None, length, drop, ap, sym}
 use Rattle.std.proofs.Common.{arith}
 use Rattle.std.specs.Prelude.{slice_get, slice_range, unwrap_or}
-use Rattle.std.specs.Option.{option_map}
 use Rattle.std.proofs.lemmas.List.{length-drop, length-take, take-take}
 use Rattle.std.proofs.lemmas.List.Elements.{All-head, All-tail}
 use Rattle.index_entries.specs.declared.Entry.{Entry}
@@ -49,14 +48,3 @@ last_front s es e h a shared le =
       inside = omega (arith, p.inside, few, long);
       is = rw (is, n) (sym (take-take shared (b0 - a0) (drop a0 s) (omega (arith, few, long))));
     }
-
-pub last_room : (s : List ℕ) (es : List Entry) (e : Entry) → Some e ≡ slice_get es (length es - 1)
-    → All (IsPlaced (length s)) es → Some e.path.len ≡ option_map length (last_path None (records_in s es))
-last_room s es e h a =
-    let a0 = range_start e.path in
-    let b0 = range_end e.path in
-    let p : IsPlaced (length s) e = last_placed (length s) es e h a in
-    let is : last_path None (records_in s es) ≡ Some (slice_range s a0 b0) = last_is s None es e h in
-    let long : e.path.len ≡ length (slice_range s a0 b0) =
-    omega (arith, p.inside, length-take (b0 - a0) (drop a0 s), length-drop a0 s) in
-    rw is (ap (λ (n : ℕ). Some n) long)

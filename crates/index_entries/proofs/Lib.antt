@@ -1,5 +1,6 @@
 pub mod Again
 pub mod Appended
+pub mod Counts
 pub mod Deltas
 pub mod DeltasAgain
 pub mod EntriesAgain

@@ -1,6 +1,6 @@
 -- The records that are written, one behind the other.
-use Rattle.std.proofs.Common.{◌≡◌, ℕ, suc, ◌+◌, ◌<◌, Bool, true, false, not, ◌||◌, cond, List, [], ◌∷◌, ◌++◌, Option}
-use Rattle.std.proofs.Common.{All, length, take, drop, get_or, map, refl, sym, ap, subst, ◌∙◌, append_assoc, append-nil}
+use Rattle.std.proofs.Common.{◌≡◌, ℕ, suc, ◌+◌, ◌<◌, ◌≤◌, ◌^◌, Bool, true, false, not, ◌||◌, cond, List, [], ◌∷◌, ◌++◌}
+use Rattle.std.proofs.Common.{Option, All, length, take, drop, get_or, map, refl, sym, ap, subst, ◌∙◌, append_assoc, append-nil}
 use Rattle.std.proofs.Common.{length-append, drop-cons, take-append-drop, arith}
 use Rattle.std.specs.Prelude.{◌≢◌}
 use Rattle.std.specs.List.{filter, list_any}
@@ -14,10 +14,7 @@ use Rattle.index_parts.specs.Taking.{Took}
 use Rattle.index_parts.specs.declared.hash.Kind.{Kind}
 use Rattle.index_entries.specs.declared.Entry.{Entry}
 use Rattle.index_entries.specs.declared.Version.{Version}
-use Rattle.index_entries.specs.declared.Version.TheVariants.{V2, V3}
-use Rattle.index_entries.specs.declared.write.VersionChoice.{VersionChoice}
-use Rattle.index_entries.specs.declared.write.VersionChoice.TheVariants as choices
-use Rattle.index_entries.specs.EntryImage.{LackNul, entry_bytes, entry_in, entries_in, is_removed, version_by, written}
+use Rattle.index_entries.specs.EntryImage.{LackNul, entry_in, entries_in, is_removed, written}
 use Rattle.index_entries.specs.Record.{Record, record_in, records_in}
 
 -- a test of records is a test of entries
@@ -51,7 +48,7 @@ shown storage (e ∷ es) = by (not (is_removed e.flags.0)) (shown storage es)
     by false h = h
 
 -- with the entry at a place, where it isn't left out
-written_more : (storage : List ℕ) (es : List Entry) (i : ℕ) (d : Entry) → i < length es
+pub written_more : (storage : List ℕ) (es : List Entry) (i : ℕ) (d : Entry) → i < length es
     → is_removed (get_or es i d).flags.0 ≡ false
     → written_of storage (take (i + 1) es) ≡ written_of storage (take i es) ++ record_in storage (get_or es i d) ∷ []
 written_more storage es i d h e =
@@ -80,7 +77,7 @@ count_push storage es i d h e = omega (
 )
 
 -- those before a place, the one there and the rest
-written_at : (storage : List ℕ) (es : List Entry) (i : ℕ) (d : Entry) → i < length es
+pub written_at : (storage : List ℕ) (es : List Entry) (i : ℕ) (d : Entry) → i < length es
     → is_removed (get_or es i d).flags.0 ≡ false → written_of storage es
     ≡ written_of storage (take i es) ++ (record_in storage (get_or es i d) ∷ written_of storage (drop (suc i) es))
 written_at storage es i d h e =
@@ -188,6 +185,34 @@ last_push storage es i d h k = sym (ap (last_of []) (written_more storage es i d
 
 -- ---- how many bytes they have
 
+-- with the bytes of the entry at a place they are no more than all have
+pub length_at : (version : Version) (storage : List ℕ) (es : List Entry) (i : ℕ) (d : Entry) (previous : List ℕ)
+    → i < length es → is_removed (get_or es i d).flags.0 ≡ false
+    → previous ≡ last_of [] (written_of storage (take i es))
+    → length (entries_in version [] (written_of storage (take i es)))
+    + length (entry_in version previous (record_in storage (get_or es i d)))
+    ≤ length (entries_in version [] (written_of storage es))
+length_at version storage es i d previous h k e =
+    let front = entries_in version [] (written_of storage (take i es)) in
+    let here = entry_in version previous (record_in storage (get_or es i d)) in
+    let rest = entries_in version (record_in storage (get_or es i d)).path (written_of storage (drop (suc i) es)) in
+    omega (
+      arith,
+      ap length (entries_at version storage es i d previous h k e),
+      length-append (front ++ here) rest,
+      length-append front here,
+    )
+
+-- what is held of those before a place has less than 2^32 bytes with the entry there, where all entries have
+pub room_at : (version : Version) (storage : List ℕ) (es : List Entry) (i : ℕ) (d : Entry) (previous : List ℕ)
+    (gone : ℕ) (held : List ℕ) → i < length es → is_removed (get_or es i d).flags.0 ≡ false
+    → previous ≡ last_of [] (written_of storage (take i es))
+    → gone + length held ≡ 12 + length (entries_in version [] (written_of storage (take i es)))
+    → 12 + length (entries_in version [] (written_of storage es)) < 2 ^ 32
+    → length held + length (entry_in version previous (record_in storage (get_or es i d))) < 2 ^ 32
+room_at version storage es i d previous gone held h k e counted small =
+    omega (arith, counted, small, length_at version storage es i d previous h k e)
+
 pub length_push : (version : Version) (storage : List ℕ) (es : List Entry) (i : ℕ) (d : Entry) (previous : List ℕ)
     → i < length es → is_removed (get_or es i d).flags.0 ≡ false
     → previous ≡ last_of [] (written_of storage (take i es))
@@ -201,34 +226,3 @@ length_push version storage es i d previous h k e =
       length-append (entries_in version []
           (written_of storage (take i es))) (entry_in version previous (record_in storage (get_or es i d))),
     )
-
--- with the bytes of the entry at a place, all pass the limit
-pub too_large_at : (version : Version) (storage : List ℕ) (es : List Entry) (i : ℕ) (d : Entry) (previous : List ℕ)
-    (n total limit : ℕ) → n ≡ length (entry_in version previous (record_in storage (get_or es i d)))
-    → previous ≡ last_of [] (written_of storage (take i es))
-    → total ≡ 12 + length (entries_in version [] (written_of storage (take i es))) → i < length es
-    → is_removed (get_or es i d).flags.0 ≡ false → limit < total + n
-    → limit < 12 + length (entries_in version [] (written_of storage es))
-too_large_at version storage es i d previous n total limit e0 e e1 h k lt =
-    let front = entries_in version [] (written_of storage (take i es)) in
-    let here = entry_in version previous (record_in storage (get_or es i d)) in
-    let rest = entries_in version (record_in storage (get_or es i d)).path (written_of storage (drop (suc i) es)) in
-    omega (
-      arith,
-      e0,
-      e1,
-      ap length (entries_at version storage es i d previous h k e),
-      length-append (front ++ here) rest,
-      length-append front here,
-    )
-
--- version 3 has the bytes of version 2
-same_entries : (previous : List ℕ) (rs : List Record) → entries_in V3 previous rs ≡ entries_in V2 previous rs
-same_entries previous [] = refl
-same_entries previous (r ∷ rs) = ap (λ (l : List ℕ). entry_bytes r ++ l) (same_entries r.path rs)
-
-pub counted_entries : (choice : VersionChoice) (b : Bool) (previous : List ℕ) (rs : List Record)
-    → entries_in (version_by choice b) previous rs ≡ entries_in (version_by choice false) previous rs
-counted_entries choices.Smallest true previous rs = same_entries previous rs
-counted_entries choices.Smallest false previous rs = refl
-counted_entries choices.V4 b previous rs = refl

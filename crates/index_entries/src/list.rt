@@ -1,8 +1,7 @@
 //! Entries that are held with the storage in which their paths lie.
 
-ghost use Rattle.std.specs.Prelude.{◌≡◌, ◌≤◌, ◌+◌, ◌++◌, ◌∷◌, [], ℕ, None, All, length, take, slice_range, unwrap_or};
+ghost use Rattle.std.specs.Prelude.{◌≡◌, ◌≤◌, ◌+◌, ◌++◌, [], ℕ, None, All, length, take, slice_range, unwrap_or};
 ghost use Rattle.std.specs.Prelude.{IfOk, OnOk, OnErr};
-ghost use Rattle.std.specs.Option.{option_map};
 ghost use Rattle.std.specs.Vec.{vec_capacity};
 ghost use Rattle.index_entries.specs.Entries.{last_path};
 ghost use Rattle.index_entries.specs.Held.{Appends, Held, IsFrontOfLast, pushed};
@@ -131,14 +130,6 @@ impl EntryList {
         ensures { result ≡ length self.now.records }
     {
         self.entries.len()
-    }
-
-    /// How many bytes the last path has.
-    pub fn last_len(&self) -> Option<usize>
-        ensures { result ≡ option_map length (last_path None self.now.records) }
-    {
-        let last = self.entries.last()?;
-        Some(last.path.len())
     }
 
     /// The entries with their paths, lent.

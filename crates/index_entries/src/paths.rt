@@ -1,32 +1,12 @@
 //! What the paths of entries share, and whether they have a NUL, as their encoding in version 4 asks (gitformat-index).
 
-ghost use Rattle.std.specs.Int.{to_be_bytes, w64};
-ghost use Rattle.std.specs.Prelude.{◌≡◌, ◌≢◌, ◌≤◌, ◌+◌, ◌↔◌, All, IsTrue, drop, length, take};
+ghost use Rattle.std.specs.Prelude.{◌≡◌, ◌≢◌, ◌≤◌, ◌↔◌, All, IsTrue, length, take};
 ghost use Rattle.index_entries.specs.EntryImage.{LackNul};
 ghost use Rattle.index_entries.specs.Record.{records_in};
 ghost use Rattle.index_entries.specs.Shared.{shared_len};
 
 use crate::Entry;
-
-/// How many bytes are compared at once.
-const WORD_LEN: usize = 8;
-
-/// The eight bytes at a place, as one number.
-fn word_at(bytes: &[u8], at: usize) -> u64
-    requires { at + 8 ≤ length bytes.now }
-    ensures { to_be_bytes w64 result ≡ take 8 (drop at bytes.now) }
-{
-    u64::from_be_bytes([
-        bytes[at],
-        bytes[at + 1],
-        bytes[at + 2],
-        bytes[at + 3],
-        bytes[at + 4],
-        bytes[at + 5],
-        bytes[at + 6],
-        bytes[at + 7],
-    ])
-}
+use index_parts::read::{WORD_LEN, word_at};
 
 /// How many bytes both begin with, counted in whole words.
 fn shared_words(a: &[u8], b: &[u8]) -> usize

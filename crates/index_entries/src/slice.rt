@@ -2,7 +2,6 @@
 
 ghost use Rattle.std.specs.Prelude.{◌≡◌, ◌<◌, ◌≤◌, List, length, take};
 ghost use Rattle.std.specs.List.{HoldsAt};
-ghost use Rattle.index_entries.specs.Order.{record_cmp};
 ghost use Rattle.index_entries.specs.Record.{Record, records_in};
 ghost use Rattle.index_entries.specs.Slice.{IsRecordOf, StandsTo};
 

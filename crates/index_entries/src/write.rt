@@ -3,14 +3,15 @@
 mod delta;
 mod entry;
 
-ghost use Rattle.std.specs.Prelude.{◌≡◌, ◌+◌, ◌<◌, ◌≤◌, ◌^◌, ◌++◌, [], length, is_err, All, IfSome, IfNone};
-ghost use Rattle.std.specs.Prelude.{OnOk, OnErr};
+ghost use Rattle.std.specs.Prelude.{◌≡◌, ◌+◌, ◌<◌, ◌≤◌, ◌^◌, ◌++◌, [], length, IfSome, IfNone};
+ghost use Rattle.std.specs.Prelude.{IfOk, OnOk, OnErr};
 ghost use Rattle.index_parts.specs.Gathered.{Gathers};
 ghost use Rattle.index_parts.specs.Puts.{Puts};
+ghost use Rattle.index_entries.specs.Counted.{counted_in};
 ghost use Rattle.index_entries.specs.EntryImage.{chosen_version, entries_in, entry_in, header_bytes, version_by};
 ghost use Rattle.index_entries.specs.EntryImage.{written};
 ghost use Rattle.index_entries.specs.Header.{header_len};
-ghost use Rattle.index_entries.specs.Record.{IsPlaced, record_in, records_in};
+ghost use Rattle.index_entries.specs.Record.{record_in, records_in};
 
 use crate::sizes::HEADER_LEN;
 use crate::{Entry, Version};
@@ -30,6 +31,15 @@ pub enum VersionChoice {
     V4,
 }
 
+/// How the bytes of entries are counted before they are written. In versions 2 and 3 both ways give the same.
+#[derive(Clone, Copy)]
+pub enum Precision {
+    /// At most so many: in version 4 as if no two paths began with the same bytes, which are not looked for.
+    Bound,
+    /// Exactly: in version 4 each path is compared with the one before.
+    Exact,
+}
+
 /// What entries come to in a file.
 #[derive(Clone, Copy)]
 pub struct Totals {
@@ -37,8 +47,8 @@ pub struct Totals {
     pub version: Version,
     /// How many of them are written.
     pub count: u32,
-    /// The bytes of the header and of those that are written.
-    pub end: u32,
+    /// The bytes of the header and of those that are written: exactly, or at most.
+    pub most: u32,
 }
 
 /// The header of a file of this version with so many entries, as bytes.
@@ -50,8 +60,8 @@ pub fn header(version: Version, count: u32) -> [u8; HEADER_LEN]
     [b'D', b'I', b'R', b'C', a, b, c, d, e, f, g, h]
 }
 
-/// Puts an entry behind the bytes of a block. Where the block has no room for it, its bytes go out first, and the entry
-/// after them.
+/// Puts an entry behind the bytes of a block, and gives how many bytes went out. Where the block has no room for it,
+/// its bytes go out first, and the entry after them.
 fn put_behind<W: Out>(
     entry: &Entry,
     version: Version,
@@ -59,43 +69,56 @@ fn put_behind<W: Out>(
     storage: &[u8],
     block: &mut Block,
     out: &mut W,
-) -> io::Result<()>
+) -> io::Result<u64>
+    requires small { length block.old.bytes
+        + length (entry_in version previous.now (record_in storage.now entry.now)) < 2 ^ 32 }
     ensures gathered { OnOk result (Gathers W.Out out.old out.new block.new.bytes
         (block.old.bytes ++ entry_in version previous.now (record_in storage.now entry.now))) }
+    ensures gone { IfOk result (λ gone. gone + length block.new.bytes
+        ≡ length block.old.bytes
+        + length (entry_in version previous.now (record_in storage.now entry.now))) }
     ensures fault { OnErr result (Puts W.Out out.old out.new result
         (block.old.bytes ++ entry_in version previous.now (record_in storage.now entry.now))) }
 {
     let len = block.len();
     if entry.put(version, previous, storage, block).is_ok() {
-        return Ok(());
+        return Ok(0);
     }
     block.cut_to(len);
     out.put(block.as_slice())?;
     block.cut_to(0);
-    entry.put(version, previous, storage, out)
+    entry.put(version, previous, storage, out)?;
+    Ok(len as u64 + entry.counted_len(Precision::Exact, version, previous, storage))
 }
 
-/// Writes the entries that are not left out, one after another, as a file of this version has them. Their bytes go out
-/// in blocks.
+/// Writes the entries that are not left out, one after another, as a file of this version has them, and gives the place
+/// behind them in a file, where they stand behind the header. Their bytes go out in blocks.
 pub fn put_entries<W: Out>(
     version: Version,
     entries: &[Entry],
     storage: &[u8],
     out: &mut W,
-) -> io::Result<()>
-    ensures { Puts W.Out out.old out.new result
+) -> io::Result<u32>
+    requires small { header_len + length
+        (entries_in version [] (written (records_in storage.now entries.now))) < 2 ^ 32 }
+    ensures puts { Puts W.Out out.old out.new result
         (entries_in version [] (written (records_in storage.now entries.now))) }
+    ensures end { IfOk result
+        (λ end. end ≡ header_len + length
+        (entries_in version [] (written (records_in storage.now entries.now)))) }
 {
     let mut block = Block::new();
     let mut previous: &[u8] = &[];
+    let mut gone = HEADER_LEN as u64;
     for entry in entries {
         if entry.is_removed() {
             continue;
         }
-        put_behind(entry, version, previous, storage, &mut block, out)?;
+        gone += put_behind(entry, version, previous, storage, &mut block, out)?;
         previous = entry.path_in(storage);
     }
-    out.put(block.as_slice())
+    out.put(block.as_slice())?;
+    Ok((gone + block.len() as u64) as u32)
 }
 
 /// The version of a file in which an entry has a second word of flags, or none has.
@@ -109,33 +132,38 @@ fn version_by(choice: VersionChoice, is_extended: bool) -> Version
     }
 }
 
-/// What the entries come to, by one pass over them; None where 32 bits can't count the bytes.
-pub fn totals_of(choice: VersionChoice, entries: &[Entry], storage: &[u8]) -> Option<Totals>
+/// What the entries come to, by one pass over them that counts so; None where 32 bits can't count the bytes.
+pub fn totals_of(
+    choice: VersionChoice,
+    precision: Precision,
+    entries: &[Entry],
+    storage: &[u8],
+) -> Option<Totals>
     requires few { length entries.now < 2 ^ 32 }
     ensures version { IfSome result
         (λ t. t.version ≡ chosen_version choice (records_in storage.now entries.now)) }
     ensures count { IfSome result
         (λ t. t.count ≡ length (written (records_in storage.now entries.now))) }
-    ensures end { IfSome result
-        (λ t. t.end ≡ header_len + length
-        (entries_in t.version [] (written (records_in storage.now entries.now)))) }
+    ensures most { IfSome result
+        (λ t. t.most ≡ header_len + counted_in precision t.version []
+        (written (records_in storage.now entries.now))) }
     ensures none { IfNone result
-        (2 ^ 32 ≤ header_len + length
-        (entries_in (chosen_version choice (records_in storage.now entries.now)) []
-        (written (records_in storage.now entries.now)))) }
+        (2 ^ 32 ≤ header_len + counted_in precision
+        (chosen_version choice (records_in storage.now entries.now)) []
+        (written (records_in storage.now entries.now))) }
 {
     // Versions 2 and 3 differ in their number alone.
     let counted = version_by(choice, false);
     let mut is_extended = false;
     let mut count = 0;
-    let mut end = HEADER_LEN as u64;
+    let mut most = HEADER_LEN as u64;
     let mut last: &[u8] = &[];
     for entry in entries {
         is_extended |= entry.flags.contains(Flags::EXTENDED);
         if !entry.is_removed() {
             count += 1;
-            end += entry.written_len(counted, last, storage);
-            if end > u64::from(u32::MAX) {
+            most += entry.counted_len(precision, counted, last, storage);
+            if most > u64::from(u32::MAX) {
                 return None;
             }
             last = entry.path_in(storage);
@@ -144,6 +172,6 @@ pub fn totals_of(choice: VersionChoice, entries: &[Entry], storage: &[u8]) -> Op
     Some(Totals {
         version: version_by(choice, is_extended),
         count,
-        end: end as u32,
+        most: most as u32,
     })
 }

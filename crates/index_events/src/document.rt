@@ -1,7 +1,5 @@
 //! All of an index file.
 
-ghost use Rattle.std.specs.Prelude.{◌≡◌};
-ghost use Rattle.index_entries.specs.EntryImage.{version_code};
 ghost use Rattle.index_state.specs.State.{contents};
 ghost use Rattle.index_text.specs.Blocks.{PutsText};
 ghost use Rattle.index_events.specs.Document.{behind_events, document_events, head_events, last_events};
@@ -18,7 +16,6 @@ use crate::printer::{Printer, Text};
 use crate::trees::write_tree;
 use crate::undo::write_undo;
 use crate::untracked::write_untracked;
-use index_entries::Version;
 use index_marks::Marks;
 use index_parts::hash::ObjectId;
 use index_parts::hash::io::Out;
@@ -28,23 +25,12 @@ use index_text::block::{put_block, put_text};
 use std::alloc::Global;
 use std::io;
 
-/// The number of a version.
-fn number_of_version(version: Version) -> u64
-    ensures { result ≡ version_code version }
-{
-    match version {
-        Version::V2 => 2,
-        Version::V3 => 3,
-        Version::V4 => 4,
-    }
-}
-
 /// Tells what stands before the entries.
 #[tactic(auto, unfolding(crate::specs::Document::head_events))]
 fn append_head<P: Printer>(text: &mut Text, state: &State, checksum: Option<ObjectId>) -> Appended
     ensures { Tells P.spell result text.old text.new (head_events (contents state.now) checksum) }
 {
-    let version = Number(number_of_version(state.version()));
+    let version = Number(state.version() as u64);
     let sparse = Answer(state.is_sparse());
     text.put_all::<P>(&[
         BeginObject(Alone),

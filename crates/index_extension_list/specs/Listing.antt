@@ -3,7 +3,7 @@ use Rattle.std.specs.Prelude.{◌≡◌, ℕ, ◌+◌, ◌++◌, List, [], ◌�
 use Rattle.std.specs.Option.{option_map}
 use Rattle.index_parts.specs.declared.hash.Kind.{Kind}
 use Rattle.index_cached_tree.specs.TreeImage.{node_bytes}
-use Rattle.index_cached_tree.specs.TreeWriting.{within_32}
+use Rattle.index_parts.specs.Numbers.{within_32}
 use Rattle.index_extension_writing.specs.MonitorImage.{monitor_bytes}
 use Rattle.index_extension_writing.specs.ResolveUndoImage.{resolve_undo_bytes}
 use Rattle.index_extension_writing.specs.UntrackedImage.{cache_bytes}

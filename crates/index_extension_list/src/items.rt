@@ -19,7 +19,7 @@ use crate::{Chosen, Lens};
 use index_cached_tree::write::put_item;
 use index_cached_tree::{Tree, git_order};
 use index_extension_writing::{fs_monitor, resolve_undo, untracked_cache};
-use index_extensions::{Signature, end_of_index_entry, sparse};
+use index_extensions::sparse;
 use index_parts::hash::Kind;
 use index_parts::hash::io::Out;
 use index_small_extensions::FsMonitor;

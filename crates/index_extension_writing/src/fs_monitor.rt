@@ -3,7 +3,7 @@
 
 ghost use Rattle.std.specs.Prelude.{◌≡◌, ◌+◌, ◌<◌, ◌^◌, false, length};
 ghost use Rattle.index_bitmaps.specs.UnpackingSteps.{items_left};
-ghost use Rattle.index_cached_tree.specs.TreeWriting.{within_32};
+ghost use Rattle.index_parts.specs.Numbers.{within_32};
 ghost use Rattle.index_extensions.specs.Encoding.{item_bytes};
 ghost use Rattle.index_parts.specs.Puts.{Puts};
 ghost use Rattle.index_small_extensions.specs.FsMonitor.{monitor_of, token_value};

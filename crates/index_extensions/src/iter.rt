@@ -7,6 +7,7 @@ ghost use Rattle.index_parts.specs.Id.{id_len};
 ghost use Rattle.index_extensions.specs.WalkSteps.{item_at};
 ghost use Rattle.index_extensions.specs.Walk.{Steps, cursor, unread};
 
+use super::head::signature_of;
 use super::{MIN_SIZE, Signature};
 use index_parts::hash::Kind;
 use index_parts::util::from_be_u32;
@@ -90,12 +91,4 @@ pub(super) fn item_of(bytes: &[u8]) -> Option<(&[u8], &[u8], &[u8], &[u8])>
     let (size, rest) = rest.split_at_checked(4)?;
     let (content, rest) = rest.split_at_checked(from_be_u32(size) as usize)?;
     Some((signature, size, content, rest))
-}
-
-/// Four bytes as a signature.
-fn signature_of(bytes: &[u8]) -> Signature
-    requires { length bytes.now ≡ 4 }
-    ensures { result ≡ bytes.now }
-{
-    [bytes[0], bytes[1], bytes[2], bytes[3]]
 }

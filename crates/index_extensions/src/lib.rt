@@ -1,8 +1,9 @@
-//! What all extensions of a git index file have in common: the walk over them, the end marker and the extension of
-//! a sparse index (gitformat-index, "Extensions").
+//! What all extensions of a git index file have in common: their head and the walk over them, the end marker and the
+//! extension of a sparse index (gitformat-index, "Extensions").
 #![tactic(auto)]
 
 pub mod end_of_index_entry;
+pub mod head;
 mod iter;
 pub mod sparse;
 

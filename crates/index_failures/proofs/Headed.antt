@@ -3,13 +3,18 @@ use Rattle.std.proofs.Common.{◌≡◌, ℕ, Bool, false, true, List, Option, S
 use Rattle.std.specs.Prelude.{IfSome}
 use Rattle.gix_index.specs.DecodeError.{Error as DecodeError}
 use Rattle.gix_index.specs.DecodeError.TheVariants.{Header}
+use Rattle.gix_index.specs.Disk.{MayHave}
 use Rattle.gix_index.specs.Disk.World.{Absent, Directory, Holds, Known, Leads, MayBe, Special, Stored, Unknown, World}
 use Rattle.gix_index.specs.FileFaults.ReadError.{Error as ReadFault}
 use Rattle.gix_index.specs.FileFaults.ReadError.TheVariants as reads
 use Rattle.gix_index.specs.Kind.{Kind}
 use Rattle.index_failures.specs.Calls.{IsHeadless, IsWholeOf}
 use Rattle.index_failures.specs.Reading.{SaysOfBytes, SaysOfHeaded}
+use Rattle.index_window.specs.Answers.{IsAllOf}
+use Rattle.index_window.specs.Counted.{IsCountedFile}
 use Rattle.index_window.specs.ReadWhole.{IsReadWhole, IsRefusal, broken, intact}
+use Rattle.index_window.specs.declared.disk.CountedFile.{CountedFile}
+use Rattle.index_window.specs.declared.disk.CountedFile.TheVariants as counted
 use Rattle.index_window.specs.declared.disk.WholeFile.{WholeFile}
 use Rattle.index_window.specs.declared.disk.WholeFile.TheVariants as whole
 
@@ -39,6 +44,18 @@ whole_of_opened known stored kind (whole.Refused f) e h =
     by : IsRefusal true kind h.bytes h.fault f → f ≡ Header h.fault
     by (broken b is) = let none : false ≡ true = b.0 in cc
     by (intact i is) = is
+
+pub counted_of_opened : (known : Known) (stored : Option Stored) (kind : Kind) (w : CountedFile)
+    → MayBe known (λ there. stored ≡ Some there) → IsCountedFile kind (IsAllOf stored) w
+    → IsCountedFile kind (MayHave known) w
+counted_of_opened known stored kind (counted.Held bytes) e h =
+    opened_so known stored (λ file. bytes.items ≡ file.bytes) e h
+counted_of_opened known stored kind (counted.Headless len fault) e h = record {
+  bytes = h.bytes;
+  are = opened_so known stored (λ file. h.bytes ≡ file.bytes) e h.are;
+  count = h.count;
+  header = h.header;
+}
 
 -- a fault of all bytes is one of those behind a header
 pub says_of_headed : (works : Bool) (world : World) (kind : Kind) (path : List ℕ) (e : ReadFault)

@@ -26,6 +26,8 @@ use Rattle.index_failures.specs.declared.failure.Failure.{Failure}
 use Rattle.gix_index.specs.OnDisk.Folders.{FailsAt, KeepsManner}
 use Rattle.index_failures.specs.Reading.{FailsReading, IsInFile, IsInFileSince, SaysOfBytes, SaysOfHeaded, SaysOfIndex}
 use Rattle.index_failures.specs.Storing.{FailsCommitting, FailsLocking, IsUnderLock}
+use Rattle.index_window.specs.Counted.{IsCountedFile}
+use Rattle.index_window.specs.declared.disk.CountedFile.{CountedFile}
 use Rattle.index_window.specs.declared.disk.WholeFile.{WholeFile}
 use Rattle.index_window.specs.declared.disk.WholeFile.TheVariants as whole
 
@@ -65,6 +67,18 @@ pub record ReadsHeaded {S F M : Type 0} (folder : Ghosts S F M) (now : S) (kind 
   pub held : IfOk answer (λ read. MayHave (folder.known now path) read.0.items)
   pub since : IfOk answer (λ read. MayBe (folder.known now path) (λ file. read.1 ≡ file.time))
   pub fault : IfErr answer (FailsReading (SaysOfHeaded (folder.works now) (folder.known now) kind path) path)
+
+-- the bytes of the opened file at a path, or of one whose header has a fault how many
+pub record CountsPath {S F M : Type 0} (folder : Ghosts S F M) (now : S) (kind : Kind) (path : Path)
+    (result : Result CountedFile IoError) : Type 0 where
+  pub counted : IfOk result (IsCountedFile kind (MayHave (folder.known now (path_bytes path))))
+  pub fault : FailsAt folder now path result
+
+-- the same, or why they can't be had
+pub record CountsFileAt {S F M : Type 0} (folder : Ghosts S F M) (now : S) (kind : Kind) (path : List ℕ)
+    (answer : Result CountedFile Failure) : Type 0 where
+  pub counted : IfOk answer (IsCountedFile kind (MayHave (folder.known now path)))
+  pub fault : IfErr answer (FailsReading (SaysOfBytes (folder.works now) (folder.known now) path) path)
 
 -- the index in the file at a path can't be read, for what the failure says
 abbrev pub FailsToRead : {S F M : Type 0} → Ghosts S F M → S → Kind → List ℕ → Failure → Type 0

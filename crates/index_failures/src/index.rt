@@ -3,7 +3,8 @@
 ghost use Rattle.std.specs.Prelude.{◌≡◌};
 ghost use Rattle.std.specs.Path.{path_buf_bytes};
 ghost use Rattle.gix_index.specs.FileFaults.ReadError.TheVariants.{Memory};
-ghost use Rattle.index_failures.specs.Calls.{OpensIndex, ReadsBytes, ReadsHeaded, ReadsIndex, ReadsWholeAt};
+ghost use Rattle.index_failures.specs.Calls.{CountsPath, CountsFileAt, OpensIndex, ReadsBytes, ReadsHeaded, ReadsIndex};
+ghost use Rattle.index_failures.specs.Calls.{ReadsWholeAt};
 ghost use Rattle.index_failures.specs.Reading.{SaysOfAnyBytes, failure_of};
 
 use crate::failure::Failure;
@@ -12,7 +13,7 @@ use gix_index::file::PathError;
 use gix_index::file::folder::{Folder, Source};
 use gix_index::hash::Kind;
 use gix_index::{File, decode, file};
-use index_window::disk::{WholeFile, bytes_of};
+use index_window::disk::{CountedFile, WholeFile, bytes_of, counted_of};
 use std::alloc::Global;
 use std::io;
 use std::io::ErrorKind;
@@ -99,6 +100,39 @@ pub fn headed_bytes_at<'a, D: Folder>(
             WholeFile::Refused(e) => Err(failure_of(path, file::init::Error::Decode(e))),
         },
         Err(fault) => Err(failure_of(path, fault_of(file, fault))),
+    }
+}
+
+/// All bytes of the file at a path; or where its first bytes are no header, how many it has, and what is wrong with it.
+#[tactic(auto, using(index_folder::proofs::Sizes::own_fault_at))]
+fn count_at<D: Folder>(
+    folder: &D,
+    alloc: Global,
+    kind: Kind,
+    path: Path<'_>,
+) -> io::Result<CountedFile>
+    ensures { CountsPath D.Folder folder.now kind path.entry result }
+{
+    let file = folder.open(path)?;
+    counted_of(alloc, file, kind)
+}
+
+/// All bytes of the file at a path, as [`bytes_at`] has them. Of a file whose first bytes are no header none are held:
+/// what is given is how many it has, and the fault of that header. No digest is compared.
+pub fn counted_at<'a, D: Folder>(
+    folder: &D,
+    alloc: Global,
+    kind: Kind,
+    path: &'a str,
+) -> Result<CountedFile, Failure<'a>>
+    ensures { CountsFileAt D.Folder folder.now kind path.now result }
+{
+    let Ok(file) = PathBuf::from_str(alloc, path) else {
+        return Err(out_of_memory(path));
+    };
+    match count_at(folder, alloc, kind, file.as_path()) {
+        Ok(counted) => Ok(counted),
+        Err(why) => Err(failure_of(path, fault_of(file, why))),
     }
 }
 

@@ -7,7 +7,6 @@ use crate::folder::{Folder, Standing};
 use crate::lock::Error;
 use std::alloc::Global;
 use std::io;
-use std::io::ErrorKind;
 use std::path::{Path, PathBuf};
 
 /// How many links are followed, one after another: as many as git follows to an index.
@@ -25,7 +24,11 @@ fn followed<D: Folder>(folder: &D, alloc: Global, link: Path<'_>) -> io::Result<
 ///
 /// [`Error::IsFolder`] and [`Error::IsSpecial`] name what is there and is no regular file. [`Error::LeadsNowhere`] and
 /// [`Error::TooManyLinks`] name the path. [`Error::Io`] names what can't be looked at.
-pub fn target_of<D: Folder>(folder: &D, alloc: Global, path: PathBuf) -> Result<PathBuf, Error>
+pub(super) fn target_of<D: Folder>(
+    folder: &D,
+    alloc: Global,
+    path: PathBuf,
+) -> Result<PathBuf, Error>
     ensures { FindsTarget D.Folder folder.now (path_buf_bytes path) result }
 {
     let mut target = path.clone()?;

@@ -1,8 +1,8 @@
 //! The time at which a file was changed last, as the system gives it and as it takes it.
 
-ghost use Rattle.std.specs.Prelude.{◌≡◌, ◌≤◌, ◌*◌, ◌+◌, ◌^◌, pos, IfSome, None, ℕ};
+ghost use Rattle.std.specs.Prelude.{◌≡◌, ◌≤◌, ◌*◌, ◌^◌, IfSome, None};
 ghost use Rattle.std.specs.Time.{system_time_nanos};
-ghost use Rattle.index_metadata.specs.Stat.{nanoseconds_of, seconds_of, whole};
+ghost use Rattle.index_metadata.specs.Stat.{seconds_of, whole};
 ghost use Rattle.index_folder.specs.Times.{IsTimeOf, is_told};
 
 use index_metadata::entry::FileTime;

@@ -1,14 +1,13 @@
 -- What lines say, line after line.
-use Rattle.std.proofs.Common.{◌≡◌, ◌∙◌, ◌+◌, ◌<◌, ℕ, Bool, List, [], ◌∷◌, ◌++◌, length, drop, get_or, map, ap, sym, refl, arith}
+use Rattle.std.proofs.Common.{◌≡◌, ◌∙◌, ◌+◌, ◌<◌, ℕ, Bool, List, [], ◌∷◌, ◌++◌, length, drop, get_or, map, ap, sym, arith}
 use Rattle.std.proofs.Common.{append_assoc, append-nil}
-use Rattle.std.specs.Prelude.{Result, Ok, Err}
+use Rattle.std.specs.Prelude.{Ok, Err}
 use Rattle.std.proofs.lemmas.List.{at_drop_all, at_drop_more}
 use Rattle.std.proofs.lemmas.List.{map-append}
 use Rattle.index_parts.specs.declared.hash.Kind.{Kind}
 use Rattle.index_info.specs.Line.{ChangeValue, Read, change_of}
-use Rattle.index_info.specs.Text.{line_value, right}
+use Rattle.index_info.specs.Text.{right}
 use Rattle.index_info.specs.declared.error.Fault.{Fault}
-use Rattle.index_info.specs.declared.line.Line.{Line}
 
 -- what was read, and what the lines say behind it
 abbrev pub left : Bool → Kind → List ChangeValue → List (List ℕ) → List (Read ChangeValue)

@@ -7,6 +7,7 @@ use Rattle.std.specs.Str.{byte, bytes_eq}
 use Rattle.hex.specs.Hex.{decode_sized}
 use Rattle.hex.specs.declared.error.FromHexError.{FromHexError}
 use Rattle.index_parts.specs.Id.{id_len, make_id}
+use Rattle.index_parts.specs.Octal.{octal_number}
 use Rattle.index_parts.specs.declared.hash.Kind.{Kind}
 use Rattle.index_parts.specs.declared.hash.ObjectId.{ObjectId}
 use Rattle.index_entries.specs.declared.Pathless.{Pathless}
@@ -14,7 +15,7 @@ use Rattle.index_metadata.specs.Flags.{stage_code}
 use Rattle.index_metadata.specs.declared.entry.flags.Stage.{Stage}
 use Rattle.index_metadata.specs.declared.entry.flags.Stage.TheVariants as stages
 use Rattle.index_metadata.specs.declared.entry.stat.Stat.{Stat}
-use Rattle.index_info.specs.Mode.{kept_mode, mode_given}
+use Rattle.index_info.specs.Mode.{kept_mode}
 use Rattle.index_info.specs.Quoting.{unquoted}
 use Rattle.index_info.specs.declared.error.Fault.{Fault}
 use Rattle.index_info.specs.declared.error.Fault.TheVariants as faults
@@ -107,7 +108,7 @@ unfoldable pub entry_given : Kind → List ℕ → Read (Option Pathless)
 entry_given kind head = do
   p ← or_else faults.NoId (cut (byte " ") head)
   q ← id_and_stage_of p.1 (cut (byte " ") p.1)
-  mode ← or_else faults.Mode (mode_given p.0)
+  mode ← or_else faults.Mode (octal_number p.0)
   stage ← stage_given q.1
   id ← id_given kind q.0
   Ok (entry_so mode stage id)

@@ -1,25 +1,7 @@
--- The mode of a line, and what an index stores for it (git-update-index, "USING --INDEX-INFO"; gitformat-index, "Index
+-- What an index stores for the mode of a line (git-update-index, "USING --INDEX-INFO"; gitformat-index, "Index
 -- entry", the 32-bit mode).
-use Rattle.std.specs.Prelude.{ℕ, ◌+◌, ◌-◌, ◌*◌, ◌^◌, ◌==◌, ◌&&◌, ◌||◌, nat_le, nat_lt, not, Bool, List, length, bit_and}
-use Rattle.std.specs.Prelude.{fold, Option, Some, None, if◌then◌else◌}
-use Rattle.std.specs.List.{list_all}
+use Rattle.std.specs.Prelude.{ℕ, ◌==◌, ◌||◌, bit_and, if◌then◌else◌}
 use Rattle.index_objects.specs.Mode.{commit_mode, directory_mode, executable_mode, file_mode, link_mode}
-
-abbrev pub is_octal : ℕ → Bool
-is_octal b = nat_le 48 b && nat_le b 55
-
--- the number of octal digits, the highest first
-abbrev pub with_digit : ℕ → ℕ → ℕ
-with_digit value digit = value * 8 + (digit - 48)
-
-abbrev pub digits_value : List ℕ → ℕ
-digits_value digits = fold with_digit 0 digits
-
--- the mode of a text: octal digits, at least one, of a number that 32 bits hold
-unfoldable pub mode_given : List ℕ → Option ℕ
-mode_given text =
-    if not (length text == 0) && list_all is_octal text
-    then (if nat_lt (digits_value text) (2 ^ 32) then Some (digits_value text) else None) else None
 
 -- the bits that tell the kind of a file
 abbrev pub file_bits : ℕ → ℕ

@@ -5,7 +5,7 @@ use Rattle.std.specs.Prelude.{◌≡◌, ◌<◌, IfSome, codes, option_map, if�
 use Rattle.std.specs.Borrow.{Bor}
 use Rattle.std.specs.Option.{option_or}
 use Rattle.std.specs.Str.{byte, bytes_eq}
-use Rattle.index_info.specs.Mode.{is_octal}
+use Rattle.index_parts.specs.Octal.{is_octal_digit}
 
 -- a byte that a text begins with, and what stands behind it
 abbrev pub Front : Type 0
@@ -37,7 +37,7 @@ octal_front [] = None
 octal_front (a ∷ []) = None
 octal_front (a ∷ b ∷ []) = None
 octal_front (a ∷ b ∷ c ∷ rest) =
-    if (is_octal a && nat_le a 51) && (is_octal b && is_octal c)
+    if (is_octal_digit a && nat_le a 51) && (is_octal_digit b && is_octal_digit c)
     then Some ((a - 48) * 64 + (b - 48) * 8 + (c - 48), rest) else None
 
 -- behind a backslash

@@ -6,12 +6,13 @@ ghost use Rattle.index_info.specs.Line.{stage_given, two_words};
 ghost use Rattle.std.specs.Str.{byte};
 
 use crate::error::Fault;
-use crate::mode::{kept_mode, mode_given};
+use crate::mode::kept_mode;
 use bitflags::Flags as _;
 use hex::FromHex;
 use index_entries::Pathless;
 use index_metadata::entry::{Flags, Mode, Stage, Stat};
 use index_parts::hash::{Kind, ObjectId};
+use index_parts::read;
 
 /// Where the first byte of this value stands.
 fn place_of(text: &[u8], byte: u8) -> Option<usize>
@@ -103,7 +104,7 @@ pub(crate) fn entry_given(kind: Kind, head: &[u8]) -> Result<Option<Pathless>, F
 {
     let (mode, rest) = cut(head, b' ').ok_or(Fault::NoId)?;
     let (id, stage) = id_and_stage(rest)?;
-    let mode = mode_given(mode).ok_or(Fault::Mode)?;
+    let mode = read::octal(mode).ok_or(Fault::Mode)?;
     let stage = stage_given(stage)?;
     let id = id_given(kind, id)?;
     Ok(entry_so(mode, stage, id))

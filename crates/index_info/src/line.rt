@@ -1,6 +1,6 @@
 //! A line, and the change that it says.
 
-ghost use Rattle.std.specs.Prelude.{◌≡◌, ◌&&◌, Ok, Err, IfOk, MatchResult, drop, not, nat_eq, codes};
+ghost use Rattle.std.specs.Prelude.{◌≡◌, Ok, Err, IfOk, MatchResult};
 ghost use Rattle.std.specs.List.{starts_with};
 ghost use Rattle.std.specs.Cow.{cow_slice_items};
 ghost use Rattle.index_info.specs.Line.{change_of, path_given};

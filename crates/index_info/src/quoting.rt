@@ -1,9 +1,9 @@
 //! Paths that stand in double quotes, as git quotes them.
 
-ghost use Rattle.std.specs.Prelude.{◌≡◌, ◌∷◌, [], IfOk, MatchOption, None, Some, option_map};
+ghost use Rattle.std.specs.Prelude.{◌≡◌, IfOk, None, Some, option_map};
 ghost use Rattle.index_info.specs.Quoting.{TakesFront, escaped_front, front_of, octal_front, unquoted, value_of_letter};
 
-use crate::mode::is_octal;
+use index_parts::read::is_octal_digit;
 use std::alloc::{AllocError, Global};
 
 /// The byte that a character stands for behind a backslash, if it is one that does by itself.
@@ -31,7 +31,7 @@ fn octal_front(text: &[u8]) -> Option<(u8, &[u8])>
     let [a, b, c, rest @ ..] = text else {
         return None;
     };
-    if !is_octal(*a) || !is_octal(*b) || !is_octal(*c) || *a > b'3' {
+    if !is_octal_digit(*a) || !is_octal_digit(*b) || !is_octal_digit(*c) || *a > b'3' {
         return None;
     }
     Some(((*a - b'0') * 64 + (*b - b'0') * 8 + (*c - b'0'), rest))

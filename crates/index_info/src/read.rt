@@ -1,6 +1,6 @@
 //! A whole text as changes.
 
-ghost use Rattle.std.specs.Prelude.{◌≡◌, ◌∷◌, [], IfOk, IfErr, map};
+ghost use Rattle.std.specs.Prelude.{◌≡◌, IfOk, IfErr, map};
 ghost use Rattle.index_info.specs.Text.{AreSaid, SaysOfText, body_of, change_value, end_of, line_value};
 
 use crate::error::Error;

@@ -1,4 +1,6 @@
 mod Begins
+mod Configs
 mod Faults
 mod Formats
 mod Gits
+mod Trailers

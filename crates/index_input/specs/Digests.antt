@@ -1,11 +1,20 @@
 -- Which kind of ids an index has by its trailer (gitformat-index, "Hash checksum over the content of the index file
 -- before this checksum").
-use Rattle.std.specs.Prelude.{◌≡◌, ◌≤◌, ℕ, List, length, take, Option, Some, None, codes}
-use Rattle.gix_index.specs.Hashing.Digest.{digest}
+use Rattle.std.specs.Prelude.{◌≡◌, ◌≤◌, ◌-◌, ◌++◌, ◌↔◌, ℕ, Bool, List, length, take, drop, true, Option, Some, None}
+use Rattle.std.specs.Prelude.{Result, IfErr, IfOk, IfSome, IsTrue, codes}
+use Rattle.std.specs.Global.{Vec}
+use Rattle.std.specs.IoError.{error_kind}
+use Rattle.std.specs.declared.io.Error.{Error}
+use Rattle.std.specs.declared.io.ErrorKind.TheVariants.{OutOfMemory}
+use Rattle.gix_index.specs.Disk.World.{whole_of}
+use Rattle.gix_index.specs.Hashing.Digest.{Holds, digest, hasher_kind}
+use Rattle.gix_index.specs.Hashing.Hasher.{Hasher}
 use Rattle.gix_index.specs.Id.{id_len}
 use Rattle.gix_index.specs.Intact.{checked_part, trailer_part}
 use Rattle.gix_index.specs.Kind.{Kind}
 use Rattle.gix_index.specs.Kind.TheVariants as kinds
+use Rattle.gix_index.specs.OnDisk.SourceTrait.{Ghosts}
+use Rattle.index_folder.specs.Sizes.{IsOwnFault}
 
 -- the last bytes, as many as an id of the kind has, are the digest of all before them
 abbrev pub EndsWithDigest : Kind → List ℕ → Type 0
@@ -23,3 +32,32 @@ IsKindOf bytes None =
 -- what a header begins with (gitformat-index, "The signature is { 'D', 'I', 'R', 'C' }")
 abbrev pub HasSignature : List ℕ → Type 0
 HasSignature bytes = take 4 bytes ≡ codes "DIRC"
+
+-- ---- what each reading of an open file answers
+
+-- The bytes at hand were hashed but for the last, of which an id has as many, and these alone stay.
+pub record HashesAllBut (kind : Kind) (h i : Hasher) (old new : List ℕ) : Type 0 where
+  pub kind_stays : hasher_kind i ≡ hasher_kind h
+  pub taken : (m : List ℕ) → Holds h m → Holds i (m ++ take (length old - id_len kind) old)
+  pub left : new ≡ drop (length old - id_len kind) old
+
+-- all bytes of the file, where that is known
+pub record ReadsFew {S : Type 0} (source : Ghosts S) (old new : S) (result : Result (Option (Vec ℕ)) Error)
+    : Type 0 where
+  pub whole : IfOk result (λ read. IfSome read (λ bytes. IfSome (source.stored old) (λ file. bytes.items ≡ file.bytes)))
+  pub stored : source.stored new ≡ source.stored old
+  pub works : source.works new ≡ source.works old
+  pub fault : source.works old ≡ true → IfErr result (λ e. error_kind e ≡ OutOfMemory)
+
+-- whether the trailer of the file is the digest of this kind
+pub record ComparesDigest {S : Type 0} (source : Ghosts S) (old new : S) (kind : Kind) (result : Result Bool Error)
+    : Type 0 where
+  pub told : IfOk result (λ is. IfSome (source.stored old) (λ file. IsTrue is ↔ EndsWithDigest kind file.bytes))
+  pub stored : source.stored new ≡ source.stored old
+  pub works : source.works new ≡ source.works old
+  pub fault : source.works old ≡ true → IfErr result (IsOwnFault (whole_of (source.stored old)))
+
+-- the kind that the trailer of the file tells
+pub record TellsTrailer {S : Type 0} (source : Ghosts S) (old : S) (result : Result (Option Kind) Error) : Type 0 where
+  pub told : IfOk result (λ kind. IfSome (source.stored old) (λ file. IsKindOf file.bytes kind))
+  pub fault : source.works old ≡ true → IfErr result (IsOwnFault (whole_of (source.stored old)))

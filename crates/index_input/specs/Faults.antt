@@ -1,9 +1,11 @@
 -- An error of this crate for a call of the system that failed, and what one shows (the program's own).
-use Rattle.std.specs.Prelude.{◌≡◌, ◌≢◌, ℕ, List}
+use Rattle.std.specs.Prelude.{◌≡◌, ◌≢◌, ℕ, List, length}
 use Rattle.std.specs.IoError.{error_kind}
 use Rattle.std.specs.Path.{path_buf_bytes}
 use Rattle.std.specs.declared.io.Error.{Error as IoError}
 use Rattle.std.specs.declared.io.ErrorKind.TheVariants.{OutOfMemory}
+use Rattle.gix_index.specs.Disk.World.{Known, MayBe}
+use Rattle.index_folder.specs.Sizes.{IsSizeFault, IsTooLong}
 use Rattle.index_input.specs.declared.error.Error.{Error}
 use Rattle.index_input.specs.declared.error.Error.TheVariants as errors
 use Rattle.index_input.specs.declared.error.FirstBytes.{FirstBytes}
@@ -17,8 +19,14 @@ IsOfFault path e (errors.NotRegular at) = ⊥
 IsOfFault path e (errors.Empty at) = ⊥
 IsOfFault path e (errors.NoIndex at start) = ⊥
 IsOfFault path e (errors.KindNotTold at) = ⊥
+IsOfFault path e (errors.OtherKind at) = ⊥
+IsOfFault path e (errors.NoCommonDir at) = ⊥
 IsOfFault path e (errors.NoGitDir at) = ⊥
 IsOfFault path e errors.NoRepository = ⊥
+
+-- a fault of reading the file that is at a path: want of memory, or that it has more bytes than an index can have
+abbrev pub IsUnreadable : Known → IoError → Type 0
+IsUnreadable known e = IsSizeFault (MayBe known (λ file. IsTooLong (length file.bytes))) e
 
 -- the bytes that an error shows of a file's begin
 abbrev pub first_bytes : FirstBytes → List ℕ

@@ -47,7 +47,7 @@ MayBePassed (Leads to) = Unit {0}
 MayBePassed Directory = ⊥
 MayBePassed Special = Unit {0}
 
--- the path in the text of such a file: what stands behind `gitdir: `, without the line ends at its end
+-- the path that a text says: all of it without the line ends at its end, if any is left
 abbrev pub without_line_ends : List ℕ → List ℕ
 without_line_ends text =
     take (length text - suffix_len (λ b. b == byte "\n" || b == byte "\r") text) text
@@ -55,9 +55,12 @@ without_line_ends text =
 abbrev pub some_path : List ℕ → Option (List ℕ)
 some_path path = if length path == 0 then None else Some path
 
+abbrev pub path_in : List ℕ → Option (List ℕ)
+path_in text = some_path (without_line_ends text)
+
+-- the path in the text of a `.git` file: what stands behind `gitdir: `
 abbrev pub gitdir_of : List ℕ → Option (List ℕ)
-gitdir_of text =
-    if starts_with nat_eq text (codes "gitdir: ") then some_path (without_line_ends (drop 8 text)) else None
+gitdir_of text = if starts_with nat_eq text (codes "gitdir: ") then path_in (drop 8 text) else None
 
 -- the index in a git folder
 abbrev pub index_in : List ℕ → List ℕ

@@ -32,6 +32,8 @@ SaysOfGit works known git (errors.NotRegular at) = ⊥
 SaysOfGit works known git (errors.Empty at) = ⊥
 SaysOfGit works known git (errors.NoIndex at start) = ⊥
 SaysOfGit works known git (errors.KindNotTold at) = ⊥
+SaysOfGit works known git (errors.OtherKind at) = ⊥
+SaysOfGit works known git (errors.NoCommonDir at) = ⊥
 SaysOfGit works known git errors.NoRepository = ⊥
 SaysOfGit works known git errors.Memory = Unit {0}
 

@@ -31,11 +31,17 @@ pub enum Error {
         /// What stands in place of the signature.
         start: FirstBytes,
     },
-    /// The file's trailer is no digest of it, as where it is null or the file is damaged, and no file `config` beside
-    /// it says the kind.
+    /// The file is in no repository, its trailer is no digest of it, as where it is null or the file is damaged, and no
+    /// file `config` beside it says the kind.
     #[error("{}: neither its trailer nor a file config beside it says the kind of its ids, so KIND has to be given: \
          sha1 or sha256", OneLine(.0.as_path().as_str()))]
     KindNotTold(PathBuf),
+    /// This `config` of a repository says another kind than the two (git-config, "extensions.objectFormat").
+    #[error("{}: extensions.objectFormat is neither sha1 nor sha256, so KIND has to be given", OneLine(.0.as_path().as_str()))]
+    OtherKind(PathBuf),
+    /// This `commondir` of a linked work tree says no folder (gitrepository-layout, "commondir").
+    #[error("{}: the file doesn't say a path in UTF-8", OneLine(.0.as_path().as_str()))]
+    NoCommonDir(PathBuf),
     /// This `.git` is a file, and not of the form of one (gitrepository-layout: "gitdir: <path>").
     #[error("{}: the file doesn't say 'gitdir: ' and a path in UTF-8", OneLine(.0.as_path().as_str()))]
     NoGitDir(PathBuf),

@@ -1,46 +1,20 @@
 //! Which kind of ids an index has.
 
 ghost use Rattle.std.specs.Prelude.{◌↔◌, IfErr, IfOk, IsTrue};
-ghost use Rattle.index_input.specs.Digests.{EndsWithDigest, HasSignature, IsKindOf};
-ghost use Rattle.index_input.specs.KindAt.{IsKindAt, ReadsConfig, ReadsSigned, SaysOfKind};
+ghost use Rattle.std.specs.Path.{path_buf_bytes};
+ghost use Rattle.index_input.specs.Digests.{HasSignature};
+ghost use Rattle.index_input.specs.KindAt.{IsKindAt, SaysOfKind};
+ghost use Rattle.index_input.specs.KindCalls.{OpensPlain, OpensSigned, ReadsFirst};
 
-use crate::config::format_of;
 use crate::error::{Error, FirstBytes};
-use gix_index::file::bytes_at;
+use crate::repository::{format_at, is_in_git_folder, kind_in_repository};
+use crate::trailer::kind_of_file;
 use gix_index::file::folder::{Folder, Source};
-use gix_index::hash::{Kind, digest};
+use gix_index::hash::Kind;
 use index_folder::pieces::fill;
 use std::alloc::Global;
 use std::io;
-use std::io::ErrorKind;
 use std::path::{Path, PathBuf};
-
-/// Whether the last bytes, as many as an id of the kind has, are the digest of all before them.
-fn ends_with_digest(kind: Kind, bytes: &[u8]) -> bool
-    ensures { IsTrue result ↔ EndsWithDigest kind bytes.now }
-{
-    let len = kind.len_in_bytes();
-    if bytes.len() < len {
-        return false;
-    }
-    let (checked, trailer) = bytes.split_at(bytes.len() - len);
-    digest(kind, checked).as_bytes() == trailer
-}
-
-/// The kind of the ids of an index with these bytes, by its trailer: that by which it is the digest of all bytes before
-/// it (gitformat-index, "Hash checksum over the content of the index file before this checksum"). None where it is
-/// neither SHA-1 nor SHA-256, as that of a damaged file, or a null one.
-pub fn kind_of(bytes: &[u8]) -> Option<Kind>
-    ensures { IsKindOf bytes.now result }
-{
-    if ends_with_digest(Kind::Sha1, bytes) {
-        Some(Kind::Sha1)
-    } else if ends_with_digest(Kind::Sha256, bytes) {
-        Some(Kind::Sha256)
-    } else {
-        None
-    }
-}
 
 /// Whether bytes begin with the signature of an index (gitformat-index, "The signature is { 'D', 'I', 'R', 'C' }").
 fn is_signed(bytes: &[u8]) -> bool
@@ -49,69 +23,85 @@ fn is_signed(bytes: &[u8]) -> bool
     bytes.starts_with(b"DIRC")
 }
 
-/// All bytes of the file at a path; of one without the signature of an index only the first four, or all if it has
-/// fewer. None where what is opened there is no regular file, of which nothing is taken. A folder is an error.
-fn signed_bytes<D: Folder>(folder: &D, alloc: Global, path: Path<'_>) -> io::Result<Option<Vec<u8>>>
-    ensures { ReadsSigned D.Folder folder.now path.entry result }
+/// Opens the regular file at a path. None where what is opened there is none, of which nothing is taken. A folder is an
+/// error.
+fn open_plain<D: Folder>(folder: &D, path: Path<'_>) -> io::Result<Option<D::File>>
+    ensures { OpensPlain D.Folder D.File.Source folder.now path.entry result }
 {
     let mut file = folder.open(path)?;
     if !file.status()?.is_plain {
         file.read(&mut [])?;
         return Ok(None);
     }
-    let mut first = Vec::with_capacity(alloc, 4)?;
-    fill(&mut file, &mut first, 4)?;
-    if !is_signed(&first) {
-        return Ok(Some(first));
-    }
-    let (bytes, _) = bytes_at(folder, alloc, path)?;
-    Ok(Some(bytes))
+    Ok(Some(file))
 }
 
-/// The kind that the repository's `config` at a path says. None where it names another kind, or isn't there.
-fn kind_in_config<D: Folder>(folder: &D, alloc: Global, path: Path<'_>) -> io::Result<Option<Kind>>
-    ensures { ReadsConfig D.Folder folder.now path.entry result }
+/// The first four bytes of a file that stands at its start, or all if it has fewer.
+fn first_bytes<S: Source>(alloc: Global, file: &mut S) -> io::Result<Vec<u8>>
+    ensures { ReadsFirst S.Source file.old file.new result }
 {
-    match folder.open(path) {
-        Ok(_) => {}
-        Err(e) if e.kind() == ErrorKind::NotFound => return Ok(None),
-        Err(e) => return Err(e),
-    }
-    let (text, _) = bytes_at(folder, alloc, path)?;
-    Ok(format_of(&text))
+    let mut first = Vec::with_capacity(alloc, 4)?;
+    fill(file, &mut first, 4)?;
+    Ok(first)
 }
 
-/// The kind of the ids of the index in a file: by its trailer, as [`kind_of`] has it; else, as where that is null or
-/// the file is damaged, what the repository's `config` in the same folder says, as [`format_of`] reads it.
+/// Opens the file at a path, which begins as an index.
+fn open_signed<D: Folder>(folder: &D, alloc: Global, path: &PathBuf) -> Result<D::File, Error>
+    ensures opened { IfOk result
+        (OpensSigned D.Folder D.File.Source folder.now (path_buf_bytes path.now)) }
+    ensures fault { IfErr result
+        (SaysOfKind (D.works folder.now) (D.known folder.now) (path_buf_bytes path.now)) }
+{
+    let mut file = match open_plain(folder, path.as_path()) {
+        Ok(Some(file)) => file,
+        Ok(None) => return Err(Error::NotRegular(path.clone()?)),
+        Err(e) => return Err(Error::of(path.clone()?, e)),
+    };
+    let first = match first_bytes(alloc, &mut file) {
+        Ok(first) => first,
+        Err(e) => return Err(Error::of(path.clone()?, e)),
+    };
+    if first.is_empty() {
+        return Err(Error::Empty(path.clone()?));
+    }
+    if !is_signed(&first) {
+        let start = FirstBytes::of(alloc, &first)?;
+        let path = path.clone()?;
+        return Err(Error::NoIndex { path, start });
+    }
+    Ok(file)
+}
+
+/// The kind of the ids of the index in a file.
 ///
-/// [`Error::Io`] names the file that can't be opened or read, this one or the `config`. [`Error::NotRegular`]: it is a
-/// pipe or a device, and nothing was taken from it. [`Error::Empty`], [`Error::NoIndex`]: it isn't an index, as its
-/// first bytes tell, and no more of it is held. [`Error::KindNotTold`]: no `config` is there, or it names another kind.
+/// Where the file is in the git folder of a repository, as `HEAD` beside it tells, this is the kind that the
+/// repository's `config` says, as [`format_of`](crate::format_of) reads it. Without a `config` it is SHA-1. In a linked
+/// work tree that is the `config` in the folder that `commondir` says. Of another file it is the kind whose digest of
+/// all bytes before it the trailer is. Where the trailer is neither digest, a `config` beside the file tells.
+///
+/// [`Error::Io`] names the file that can't be opened or read: this one, `HEAD`, `commondir` or the `config`.
+/// [`Error::NotRegular`]: it is a pipe or a device, and nothing was taken from it. [`Error::Empty`] and
+/// [`Error::NoIndex`]: it isn't an index, as its first bytes tell, and no more of it is read. [`Error::OtherKind`]: the
+/// repository's `config` names another kind. [`Error::NoCommonDir`]: `commondir` says no folder. [`Error::KindNotTold`]:
+/// it is in no repository, its trailer is no digest, and no `config` is beside it, or one that names another kind.
 pub fn kind_at<D: Folder>(folder: &D, alloc: Global, path: &str) -> Result<Kind, Error>
     ensures told { IfOk result (IsKindAt (D.known folder.now) path.now) }
     ensures fault { IfErr result (SaysOfKind (D.works folder.now) (D.known folder.now) path.now) }
 {
-    let file = PathBuf::from_str(alloc, path)?;
-    let bytes = match signed_bytes(folder, alloc, file.as_path()) {
-        Ok(Some(bytes)) => bytes,
-        Ok(None) => return Err(Error::NotRegular(file)),
-        Err(e) => return Err(Error::of(file, e)),
-    };
-    if bytes.is_empty() {
-        return Err(Error::Empty(file));
+    let index = PathBuf::from_str(alloc, path)?;
+    let mut file = open_signed(folder, alloc, &index)?;
+    if is_in_git_folder(folder, alloc, &index)? {
+        return kind_in_repository(folder, alloc, &index);
     }
-    if !is_signed(&bytes) {
-        let start = FirstBytes::of(alloc, &bytes)?;
-        return Err(Error::NoIndex { path: file, start });
+    match kind_of_file(alloc, &mut file) {
+        Ok(Some(kind)) => return Ok(kind),
+        Ok(None) => {}
+        Err(e) => return Err(Error::of(index, e)),
     }
-    if let Some(kind) = kind_of(&bytes) {
-        return Ok(kind);
-    }
-    drop(bytes);
-    let config = file.with_file_name(alloc, "config")?;
-    match kind_in_config(folder, alloc, config.as_path()) {
+    let config = index.with_file_name(alloc, "config")?;
+    match format_at(folder, alloc, config.as_path()) {
         Ok(Some(kind)) => Ok(kind),
-        Ok(None) => Err(Error::KindNotTold(file)),
+        Ok(None) => Err(Error::KindNotTold(index)),
         Err(e) => Err(Error::of(config, e)),
     }
 }

@@ -5,8 +5,10 @@ pub mod config;
 mod error;
 pub mod kind;
 pub mod place;
+mod repository;
+mod trailer;
 
 pub use config::format_of;
 pub use error::{Error, FirstBytes};
-pub use kind::{kind_at, kind_of};
+pub use kind::kind_at;
 pub use place::{Surroundings, index_path};

@@ -4,7 +4,7 @@ ghost use Rattle.std.specs.Prelude.{◌≡◌, IfErr, IfOk};
 ghost use Rattle.std.specs.Option.{option_copied, option_map};
 ghost use Rattle.std.specs.Path.{path_buf_bytes};
 ghost use Rattle.std.specs.String.{string_bytes};
-ghost use Rattle.index_input.specs.Place.{MayBeOpened, gitdir_of, index_in, text_given, without_line_ends};
+ghost use Rattle.index_input.specs.Place.{MayBeOpened, gitdir_of, index_in, path_in, text_given, without_line_ends};
 ghost use Rattle.index_input.specs.PlaceFaults.{FindsIndex, IsPlaced, IsUpward, LeadsByText, SaysOfPlace};
 ghost use Rattle.index_input.specs.PlaceFaults.{SaysOfSearch, SaysOfText};
 
@@ -47,15 +47,22 @@ fn without_line_ends(text: &[u8]) -> &[u8]
     &text[..len]
 }
 
-/// The path that the text of a `.git` file says.
-fn gitdir_of(text: &[u8]) -> Option<&[u8]>
-    ensures { option_copied result ≡ gitdir_of text.now }
+/// The path that a text says: all of it without the line ends at its end. None where nothing is left.
+pub(crate) fn path_in(text: &[u8]) -> Option<&[u8]>
+    ensures { option_copied result ≡ path_in text.now }
 {
-    let path = without_line_ends(text.strip_prefix(b"gitdir: ")?);
+    let path = without_line_ends(text);
     if path.is_empty() {
         return None;
     }
     Some(path)
+}
+
+/// The path that the text of a `.git` file says.
+fn gitdir_of(text: &[u8]) -> Option<&[u8]>
+    ensures { option_copied result ≡ gitdir_of text.now }
+{
+    path_in(text.strip_prefix(b"gitdir: ")?)
 }
 
 /// The index in a git folder.

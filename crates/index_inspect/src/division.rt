@@ -1,12 +1,12 @@
 //! A whole file, part by part.
 
-ghost use Rattle.std.specs.Prelude.{◌≡◌, ◌≤◌, ◌<◌, ◌+◌, ◌-◌, ◌++◌, [], List, length, Some, Ok, Err, IfOk, false};
+ghost use Rattle.std.specs.Prelude.{◌≡◌, ◌≤◌, ◌<◌, ◌+◌, ◌-◌, ◌++◌, [], ℕ, List, length, Some, Ok, Err, IfOk, false};
 ghost use Rattle.gix_index.specs.Header.{count_of, header_of};
 ghost use Rattle.gix_index.specs.HeaderErrors.{header_fault};
 ghost use Rattle.gix_index.specs.Id.{id_len};
 ghost use Rattle.gix_index.specs.Kind.{Kind as KindType};
 ghost use Rattle.gix_index.specs.Walk.{NoItem, left_of};
-ghost use Rattle.index_inspect.specs.Division.{Divides, IsCrowded, IsDivisionOf, NoEntryBehind, unread_piece};
+ghost use Rattle.index_inspect.specs.Division.{IsCrowded, IsDivisionOf, NoEntryBehind, unread_piece};
 ghost use Rattle.index_inspect.specs.DivisionSteps.{EndsDivision, EndsIn, GoesOn, WalksOn};
 ghost use Rattle.index_map.specs.Piece.{LieBetween, laid};
 ghost use Rattle.index_inspect.specs.Spelling.{Spelling};
@@ -175,14 +175,16 @@ fn behind_entries(
     walk_ending(alloc, kind, bytes, after, offset, parts)
 }
 
-/// The parts of a file with this fault of its header.
-fn headless(alloc: Global, bytes: &[u8], fault: header::Error) -> Result<Division, AllocError>
-    ensures { IfOk result (λ d. (kind : KindType)
-        → header_of kind bytes.now ≡ Err (header_fault fault)
-        → IsDivisionOf kind bytes.now d) }
+/// The parts of a file of so many bytes with this fault of its header, as [`divide`] gives them, whatever its bytes are:
+/// all of them are one part.
+pub fn headless(alloc: Global, len: usize, fault: header::Error) -> Result<Division, AllocError>
+    ensures { IfOk result (λ d. (kind : KindType) (bytes : List ℕ) → len ≡ length bytes
+        → header_of kind bytes ≡ Err (header_fault fault) → IsDivisionOf kind bytes d) }
 {
-    let Ending { parts, fault } = refused(Vec::new(alloc), 0, bytes, Error::Header(fault))?;
+    let mut parts = Vec::new(alloc);
+    push_part(&mut parts, 0, len, What::Unread)?;
     let entries = EntryList::new(alloc);
+    let fault = Some(Error::Header(fault));
     Ok(Division {
         parts,
         entries,
@@ -202,7 +204,7 @@ pub fn divide(alloc: Global, kind: Kind, bytes: &[u8]) -> Result<Division, Alloc
 {
     let (version, declared, _) = match header::decode(bytes, kind) {
         Ok(found) => found,
-        Err(e) => return headless(alloc, bytes, e),
+        Err(e) => return headless(alloc, bytes.len(), e),
     };
     let Front {
         parts,

@@ -1,9 +1,8 @@
 //! The entries that stand at the front of a file, and where.
 
-ghost use Rattle.std.specs.Prelude.{◌≡◌, ◌≤◌, ◌+◌, ℕ, List, length, drop, take, min, IfOk, OnOk, [], ◌++◌};
+ghost use Rattle.std.specs.Prelude.{◌≡◌, ◌≤◌, ◌+◌, length, min, IfOk, OnOk};
 ghost use Rattle.gix_index.specs.Header.{header_len};
-ghost use Rattle.index_inspect.specs.FrontSteps.{IsFront, IsFrontOf, LaysEntry, own_len, head_len};
-ghost use Rattle.index_map.specs.Piece.{laid, some_piece, one_piece};
+ghost use Rattle.index_inspect.specs.FrontSteps.{IsFrontOf, LaysEntry, own_len, head_len};
 
 use gix_index::decode::entry::{EntryList, EntryReader, Lent};
 use gix_index::entry::Flags;

@@ -1,10 +1,9 @@
 //! The extensions behind the entries of a file, and where.
 
-ghost use Rattle.std.specs.Prelude.{◌≡◌, ◌≤◌, ◌+◌, ℕ, List, length, IfErr, IfOk, MatchOption};
-ghost use Rattle.gix_index.specs.Kind.{Kind as KindType};
-ghost use Rattle.gix_index.specs.Link.{HasDelete, SaysLink};
+ghost use Rattle.std.specs.Prelude.{◌≡◌, ◌≤◌, ◌+◌, length, IfErr, IfOk};
+ghost use Rattle.gix_index.specs.Link.{HasDelete};
 ghost use Rattle.gix_index.specs.LinkError.TheVariants.{Memory};
-ghost use Rattle.index_inspect.specs.ItemSteps.{IsItemFault, IsWalked, IsSoundItem, TellsAsLink, TellsItem, TellsLink};
+ghost use Rattle.index_inspect.specs.ItemSteps.{IsItemFault, IsWalked, TellsAsLink};
 
 use gix_index::decode::Error;
 use gix_index::extension::decode::Error as ExtensionError;

@@ -14,6 +14,6 @@ pub mod salvage;
 
 pub use accepted::{EntryFault, entry_fault};
 pub use chosen::{FirstUnfit, Keep, Unfit};
-pub use division::{Division, divide};
+pub use division::{Division, divide, headless};
 pub use remains::{Remains, remains_of};
 pub use salvage::{Salvaged, SharedEntries};

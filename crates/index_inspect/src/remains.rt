@@ -2,9 +2,8 @@
 
 ghost use Rattle.std.specs.Prelude.{◌≡◌, ℕ, IfErr, IfOk, IfSome, IsOk, IsSomeAnd, Some, length};
 ghost use Rattle.std.specs.Option.{option_map};
-ghost use Rattle.gix_index.specs.ExtensionValue.{IsValue};
 ghost use Rattle.gix_index.specs.Header.{header_of};
-ghost use Rattle.gix_index.specs.Link.{HasDelete, IsLink, link_of};
+ghost use Rattle.gix_index.specs.Link.{HasDelete, link_of};
 ghost use Rattle.gix_index.specs.State.{contents, records};
 ghost use Rattle.index_map.specs.Piece.{LieBetween};
 ghost use Rattle.index_inspect.specs.Remains.{IsLinkAmong, IsPlainIndex, Remain, SaysLost, has_link, is_link_content, is_link_fault, is_link_head, last_begin, last_link, link_content, wanted_id};

@@ -3,7 +3,7 @@ use Rattle.std.proofs.Common.{◌≡◌, ℕ, zero, suc, ◌+◌, ◌<◌, true,
 use Rattle.std.proofs.Common.{Option, Some, None, All, get_or, set, sym, ap, ◌∙◌, arith, refl}
 use Rattle.std.proofs.lemmas.List.Elements.{All-head, All-tail}
 use Rattle.index_parts.specs.declared.hash.ObjectId.{ObjectId}
-use Rattle.index_cached_tree.specs.Tree.{Node, Nodes, node, none, more, nodes_from}
+use Rattle.index_cached_tree.specs.Tree.{Node, Nodes, node, more, nodes_from}
 use Rattle.index_invalidation.specs.Invalidation.{invalidated, invalidated_below, is_named}
 
 -- no child before a place has the name

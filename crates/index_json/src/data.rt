@@ -1,6 +1,6 @@
 //! What a field says, as a value: a number, an id, ranges, a side of a conflict, a block of entries.
 
-ghost use Rattle.std.specs.Prelude.{◌-◌, ◌++◌};
+ghost use Rattle.std.specs.Prelude.{◌++◌};
 ghost use Rattle.index_events.specs.Event.{Adds, position_of};
 ghost use Rattle.index_json.specs.Json.{datum_value, range_value};
 ghost use Rattle.index_json.specs.Values.{array, begin_of};

@@ -3,7 +3,7 @@
 ghost use Rattle.std.specs.Prelude.{◌≡◌, ◌++◌};
 ghost use Rattle.index_parts.specs.Id.{id_bytes};
 ghost use Rattle.std.specs.Bool.{OnTrue};
-ghost use Rattle.json.specs.Print.{escape, quoted};
+ghost use Rattle.json.specs.Print.{escape};
 ghost use Rattle.index_events.specs.Event.{Adds, position_of};
 ghost use Rattle.index_json.specs.Values.{begin_of, begin_with, hex_string, json_string, separator, text_value};
 

@@ -17,7 +17,6 @@ use index_text::digits::low_octal;
 use index_text::lines::Lines;
 use std::alloc::Global;
 use std::io;
-use std::io::ErrorKind;
 
 /// Appends the line of these parts.
 fn append_parts(

@@ -16,7 +16,6 @@ use index_text::lines::Lines;
 use itoa::Buffer;
 use std::alloc::Global;
 use std::io;
-use std::io::ErrorKind;
 
 /// Appends the number of entries, or -1 where it isn't known.
 fn append_count(lines: &mut Vec<u8>, count: Option<u32>) -> Appended

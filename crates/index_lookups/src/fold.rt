@@ -7,27 +7,8 @@ ghost use Rattle.index_entries.specs.Order.{path_cmp};
 ghost use Rattle.index_lookups.specs.Folded.{folded};
 ghost use Rattle.index_lookups.specs.NameSteps.{common_cmp};
 
+use index_parts::read::{WORD_LEN, word_at};
 use std::cmp::Ordering;
-
-/// How many bytes are compared at once.
-const WORD_LEN: usize = 8;
-
-/// The eight bytes at a place, as one number.
-fn word_at(bytes: &[u8], at: usize) -> u64
-    requires { at + 8 ≤ length bytes.now }
-    ensures { to_be_bytes w64 result ≡ take 8 (drop at bytes.now) }
-{
-    u64::from_be_bytes([
-        bytes[at],
-        bytes[at + 1],
-        bytes[at + 2],
-        bytes[at + 3],
-        bytes[at + 4],
-        bytes[at + 5],
-        bytes[at + 6],
-        bytes[at + 7],
-    ])
-}
 
 /// The word with each of its eight bytes in lower case. To the lower seven bits of a byte a number is added that sets
 /// the highest bit from `A` on, and another that sets it behind `Z`; where just the first does, and the byte is of

@@ -1,7 +1,7 @@
 //! A part of a file.
 
-ghost use Rattle.std.specs.Prelude.{◌≡◌, ◌+◌, ◌++◌, [], ◌∷◌, ℕ, List, OnOk, length};
-ghost use Rattle.index_map.specs.Piece.{Lays, laid, one_piece, some_piece};
+ghost use Rattle.std.specs.Prelude.{OnOk};
+ghost use Rattle.index_map.specs.Piece.{Lays, one_piece, some_piece};
 
 use index_extensions::Signature;
 use std::alloc::AllocError;

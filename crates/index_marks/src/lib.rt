@@ -2,7 +2,7 @@
 //! Index Entry"), whether it is so or not.
 #![tactic(auto)]
 
-ghost use Rattle.std.specs.Prelude.{◌≡◌, List, ℕ, IfOk, None, codes};
+ghost use Rattle.std.specs.Prelude.{◌≡◌, List, ℕ, IfOk, None};
 ghost use Rattle.std.specs.Option.{option_map};
 ghost use Rattle.index_extensions.specs.ExtensionValue.{IsRead, IsValue, content_named, or_else};
 ghost use Rattle.index_small_extensions.specs.OffsetTable.{IsTable};

@@ -1,6 +1,6 @@
 //! Faults as numbers and texts.
 
-ghost use Rattle.std.specs.Prelude.{◌≡◌, ◌≤◌, IfSome, length};
+ghost use Rattle.std.specs.Prelude.{◌≡◌, ◌≤◌, IfSome};
 ghost use Rattle.index_numbers.specs.Numbers.{HasNumber, IsNumbered, extension_number, header_number, read_status, table_number, table_place};
 ghost use Rattle.index_numbers.specs.Summaries.{HasText};
 ghost use Rattle.index_table.specs.Faults.{decode_fault};

@@ -1,10 +1,8 @@
 //! Kinds, versions and cached trees as numbers.
 
 ghost use Rattle.std.specs.Prelude.{◌≡◌};
-ghost use Rattle.gix_index.specs.EntryImage.{version_code};
 ghost use Rattle.index_numbers.specs.Numbers.{choice_numbered, kind_numbered, tree_number, whose_number};
 
-use gix_index::Version;
 use gix_index::hash::Kind;
 use gix_index::write::VersionChoice;
 use index_table::fault::Whose;
@@ -42,17 +40,6 @@ pub fn choice_of(number: u32) -> Option<VersionChoice>
         2 | 3 => Some(VersionChoice::Smallest),
         4 => Some(VersionChoice::V4),
         _ => None,
-    }
-}
-
-/// The number of a version.
-pub fn number_of_version(version: Version) -> u32
-    ensures { result ≡ version_code version }
-{
-    match version {
-        Version::V2 => 2,
-        Version::V3 => 3,
-        Version::V4 => 4,
     }
 }
 

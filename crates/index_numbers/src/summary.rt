@@ -5,7 +5,7 @@ ghost use Rattle.index_numbers.specs.Statuses.{TellsSummary};
 ghost use Rattle.index_numbers.specs.Summaries.{TellsFailure, blank, link_number, shared_id_bytes, summary_told};
 
 use crate::fault::{number_of_error, put_fault, status_of_error};
-use crate::number::{OWN, number_of_version, number_of_whose};
+use crate::number::{OWN, number_of_whose};
 use crate::status::{MEMORY, WRONG_NUMBER};
 use gix_index::hash::ObjectId;
 use index_table::fault::Failure;
@@ -87,7 +87,7 @@ pub fn summary_of(sizes: &Sizes) -> Summary
     Summary {
         entries: sizes.entries,
         path_bytes: sizes.path_bytes,
-        version: number_of_version(sizes.version),
+        version: sizes.version as u32,
         has_link: number_of_link(&sizes.link),
         shared_id: shared_id_of(&sizes.link),
         ..blank()

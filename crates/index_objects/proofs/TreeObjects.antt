@@ -10,8 +10,8 @@ use Rattle.index_parts.proofs.Readers.{id_takes, id_again}
 use Rattle.index_parts.proofs.Splits.{split_takes, split_again}
 use Rattle.index_parts.proofs.Steps.{bind_some, test_some}
 use Rattle.index_parts.specs.Id.{make_id}
-use Rattle.index_parts.specs.Octal.{IsOctal}
-use Rattle.index_parts.specs.ReadingSteps.{split_at_byte, octal_of, object_id_at}
+use Rattle.index_parts.specs.Octal.{IsOctal, octal_number}
+use Rattle.index_parts.specs.ReadingSteps.{split_at_byte, object_id_at}
 use Rattle.index_objects.specs.TreeObjectSteps.{short, tree_mode_of, named, tree_entry_at}
 use Rattle.index_objects.specs.TreeObject.{TreeEntry, IsTreeEntry, NoTreeEntry, AreTreeEntries, IsTreeObject}
 use Rattle.index_objects.specs.TreeObject.{IsMalformedTree, Lists}
@@ -21,7 +21,7 @@ use Rattle.index_parts.specs.declared.hash.Kind.{Kind}
 
 mode_takes : (text : List ℕ) (n : ℕ) → tree_mode_of text ≡ Some n → IsOctal text n × (n < 2 ^ 16)
 mode_takes text n e =
-    let o = bind_some (octal_of text) short n e in
+    let o = bind_some (octal_number text) short n e in
     let t = test_some (ltb o.0 (2 ^ 16)) o.0 n o.2 in
     subst (λ (m : ℕ). IsOctal text m × (m < 2 ^ 16)) t.1 (octal_takes text o.0 o.1, ltb-true o.0 (2 ^ 16) t.0)
 

@@ -1,7 +1,8 @@
 -- What the reader of tree objects finds at the front of bytes, as functions ("Pro Git", "Git Objects"). Public clauses
 -- cite none of these.
 use Rattle.std.specs.Prelude.{ℕ, ◌^◌, nat_lt, List, [], ◌∷◌, Option, Some, None, if◌then◌else◌}
-use Rattle.index_parts.specs.ReadingSteps.{◌>>=◌, split_at_byte, octal_of, object_id_at}
+use Rattle.index_parts.specs.Octal.{octal_number}
+use Rattle.index_parts.specs.ReadingSteps.{◌>>=◌, split_at_byte, object_id_at}
 use Rattle.index_objects.specs.TreeObject.{TreeEntry}
 use Rattle.index_parts.specs.declared.hash.Kind.{Kind}
 
@@ -11,7 +12,7 @@ short n = if nat_lt n (2 ^ 16) then Some n else None
 
 -- the mode that octal digits encode
 abbrev pub tree_mode_of : List ℕ → Option ℕ
-tree_mode_of text = octal_of text >>= short
+tree_mode_of text = octal_number text >>= short
 
 -- a name, if it has a byte
 abbrev pub named : List ℕ → Option (List ℕ)

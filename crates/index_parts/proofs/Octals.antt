@@ -1,12 +1,12 @@
 -- What is read of octal digits is spelled so, and what is spelled so is read.
-use Rattle.std.proofs.Common.{◌≡◌, ℕ, suc, ◌+◌, ◌-◌, ◌*◌, ◌^◌, ◌<◌, ◌≤◌, Bool, true, false, cond, ltb, List, [], ◌∷◌}
-use Rattle.std.proofs.Common.{length, Some, None, All, refl, sym, ap, subst, ◌∙◌, arith}
-use Rattle.std.specs.Prelude.{◌≢◌}
-use Rattle.std.proofs.lemmas.Bool.{ltb-true, lt-ltb, leb-true, le-leb, and_parts, and_from}
+use Rattle.std.proofs.Common.{◌≡◌, ℕ, suc, ◌+◌, ◌-◌, ◌*◌, ◌^◌, ◌<◌, ◌≤◌, Bool, true, false, cond, eqb, ltb, not, List}
+use Rattle.std.proofs.Common.{[], ◌∷◌, length, Option, Some, None, All, refl, sym, ap, subst, ◌∙◌, arith}
+use Rattle.std.specs.Prelude.{◌≢◌, ◌&&◌}
+use Rattle.std.specs.List.{list_all}
+use Rattle.std.proofs.lemmas.Bool.{ltb-true, lt-ltb, ne_eqb, leb-true, le-leb, and_parts, and_from}
 use Rattle.std.proofs.lemmas.List.Elements.{All-nil, All-cons, All-head, All-tail}
 use native.Mathlib.Numerals.{unary_clauses}
-use Rattle.index_parts.specs.Octal.{IsOctalDigit, octal_value, IsOctal}
-use Rattle.index_parts.specs.ReadingSteps.{is_octal_digit, octal_from, octal_of}
+use Rattle.index_parts.specs.Octal.{IsOctalDigit, is_octal_digit, octal_value, IsOctal, octal_number}
 
 -- ---- digits
 
@@ -15,6 +15,61 @@ digit_is b e = let parts = and_parts _ _ e in (leb-true _ _ parts.0, leb-true _ 
 
 is_digit : (b : ℕ) → IsOctalDigit b → is_octal_digit b ≡ true
 is_digit b h = and_from _ _ (le-leb _ _ h.0) (le-leb _ _ h.1)
+
+all_digits : (text : List ℕ) → list_all is_octal_digit text ≡ true → All IsOctalDigit text
+all_digits [] e = All-nil IsOctalDigit
+all_digits (b ∷ text) e =
+    let parts = and_parts _ _ e in All-cons IsOctalDigit b text (digit_is b parts.0) (all_digits text parts.1)
+
+digits_all : (text : List ℕ) → All IsOctalDigit text → list_all is_octal_digit text ≡ true
+digits_all [] h = refl
+digits_all (b ∷ text) h = and_from _ _ (is_digit b (All-head IsOctalDigit b text h))
+    (digits_all text (All-tail IsOctalDigit b text h))
+
+some_byte : (text : List ℕ) → not (eqb (length text) 0) ≡ true → text ≢ []
+some_byte [] e = absurd cc
+some_byte (b ∷ text) e = λ none. absurd cc
+
+pub octal_takes : (text : List ℕ) (n : ℕ) → octal_number text ≡ Some n → IsOctal text n
+unfolding octal_number
+octal_takes text n e = by (not (eqb (length text) 0) && list_all is_octal_digit text)
+    (ltb (octal_value text) (2 ^ 32)) refl refl e
+  where
+    by : (t u : Bool) → (not (eqb (length text) 0) && list_all is_octal_digit text) ≡ t
+        → ltb (octal_value text) (2 ^ 32) ≡ u → cond t (cond u (Some (octal_value text)) None) None ≡ Some n
+        → IsOctal text n
+    by false u d f k = absurd cc
+    by true false d f k = absurd cc
+    by true true d f k =
+        let is : octal_value text ≡ n = cc in
+        let parts = and_parts _ _ d in
+        record {
+          some = some_byte text parts.0;
+          digits = all_digits text parts.1;
+          value = sym is;
+          fits = rw (← is) (ltb-true _ _ f);
+        }
+
+pub octal_again : (text : List ℕ) (n : ℕ) → IsOctal text n → octal_number text ≡ Some n
+unfolding octal_number
+octal_again [] n h = absurd (h.some refl)
+octal_again (b ∷ text) n h =
+    let some : eqb (length (b ∷ text)) 0 ≡ false = ne_eqb (length (b ∷ text)) 0 (λ e. omega (arith, e)) in
+    let digits : list_all is_octal_digit (b ∷ text) ≡ true = digits_all (b ∷ text) h.digits in
+    let less : ltb (octal_value (b ∷ text)) (2 ^ 32) ≡ true = lt-ltb _ _ (rw (← h.value) h.fits) in
+    rw (some, digits, less) (ap Some (sym h.value))
+
+pub octal_none : (text : List ℕ) → eqb (length text) 0 ≡ true → octal_number text ≡ None
+unfolding octal_number
+octal_none text e = rw e refl
+
+-- ---- digit after digit
+
+-- the number of octal digits, where those before them stand for so much
+abbrev pub octal_from : ℕ → List ℕ → Option ℕ
+octal_from high [] = Some high
+octal_from high (b ∷ text) =
+    cond (is_octal_digit b) (cond (ltb (high * 8 + (b - 48)) (2 ^ 32)) (octal_from (high * 8 + (b - 48)) text) None) None
 
 -- what digits stand for behind others, which stand for so much
 abbrev whole : ℕ → List ℕ → ℕ
@@ -70,17 +125,19 @@ from_again high (b ∷ text) digits fits =
     (omega (arith, fits, whole_next high b text)) in
     rw (digit, less, whole_next high b text) rest
 
-pub octal_takes : (text : List ℕ) (n : ℕ) → octal_of text ≡ Some n → IsOctal text n
-octal_takes [] n e = absurd cc
-octal_takes (b ∷ text) n e =
-    let s = from_takes 0 (b ∷ text) n (omega arith) e in
-    record { some = λ none. absurd cc; digits = s.0; value = omega (arith, s.1); fits = s.2 }
+same_option : (a b : Option ℕ) → ((n : ℕ) → a ≡ Some n → b ≡ Some n) → ((n : ℕ) → b ≡ Some n → a ≡ Some n) → a ≡ b
+same_option None None f g = refl
+same_option None (Some n) f g = g n refl
+same_option (Some n) b f g = sym (f n refl)
 
-pub octal_again : (text : List ℕ) (n : ℕ) → IsOctal text n → octal_of text ≡ Some n
-octal_again [] n h = absurd (h.some refl)
-octal_again (b ∷ text) n h =
-    let is : whole 0 (b ∷ text) ≡ n = omega (arith, h.value) in
-    from_again 0 (b ∷ text) h.digits (rw is h.fits) ∙ ap Some is
+-- from the first digit on
+pub octal_first : (text : List ℕ) → eqb (length text) 0 ≡ false → octal_from 0 text ≡ octal_number text
+octal_first [] h = absurd cc
+octal_first (b ∷ text) h = same_option _ _ (λ n e. octal_again (b ∷ text) n (let s = from_takes 0 (b ∷ text) n (omega arith) e in
+    record { some = λ none. absurd cc; digits = s.0; value = omega (arith, s.1); fits = s.2 }))
+    (λ n e. let t = octal_takes (b ∷ text) n e in
+    let is : whole 0 (b ∷ text) ≡ n = omega (arith, t.value) in
+    from_again 0 (b ∷ text) t.digits (rw is t.fits) ∙ ap Some is)
 
 -- ---- no other byte stands in them, and they have a byte
 

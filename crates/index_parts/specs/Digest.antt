@@ -2,8 +2,7 @@
 use Rattle.std.specs.Prelude.{◌≡◌, ℕ, zero, suc, List}
 use Rattle.sha1.specs.Sha1.{sha1}
 use Rattle.sha2.specs.Sha256.{sha256}
-use Rattle.index_digest.specs.Hasher as hashed
-use Rattle.index_digest.specs.Hasher256 as hashed256
+use Rattle.index_digest.specs.Hasher.{HoldsSha1, HoldsSha256}
 use Rattle.index_parts.specs.declared.hash.Kind.{Kind}
 use Rattle.index_parts.specs.declared.hash.Kind.TheVariants as kinds
 use Rattle.index_parts.specs.declared.hash.Hasher.{Hasher}
@@ -22,8 +21,8 @@ hasher_kind (hashers.Sha256 state) = kinds.Sha256
 
 -- the hasher has taken in these bytes
 abbrev pub Holds : Hasher → List ℕ → Type 0
-Holds (hashers.Sha1 state) message = hashed.Holds state message
-Holds (hashers.Sha256 state) message = hashed256.Holds state message
+Holds (hashers.Sha1 state) message = HoldsSha1 state message
+Holds (hashers.Sha256 state) message = HoldsSha256 state message
 
 -- what a hasher over others has taken in, at depth 0, and what those below it have
 abbrev pub hashed_over : Hasher → (ℕ → Kind → List ℕ → Type 0) → ℕ → Kind → List ℕ → Type 0

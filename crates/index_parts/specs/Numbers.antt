@@ -1,6 +1,7 @@
 -- Numbers and pieces at the front of a list of bytes (gitformat-index: all numbers are big-endian).
 use Rattle.std.specs.Int.{w32, to_be_bytes}
-use Rattle.std.specs.Prelude.{◌≡◌, ◌≢◌, ℕ, ◌+◌, ◌*◌, ◌^◌, ◌≤◌, List, [], ◌∷◌, ◌++◌, All, length, take, drop}
+use Rattle.std.specs.Prelude.{◌≡◌, ◌≢◌, ℕ, ◌+◌, ◌*◌, ◌^◌, ◌≤◌, nat_lt, List, [], ◌∷◌, ◌++◌, All, length, take, drop}
+use Rattle.std.specs.Prelude.{Option, Some, None, if◌then◌else◌}
 
 -- the number that bytes encode, the first byte the highest
 abbrev pub be : List ℕ → ℕ
@@ -10,6 +11,10 @@ be (byte ∷ bytes) = byte * 256 ^ length bytes + be bytes
 -- a number of four bytes, the highest first
 abbrev pub be32 : ℕ → List ℕ
 be32 n = to_be_bytes w32 n
+
+-- the number where it has at most 32 bits
+abbrev pub within_32 : ℕ → Option ℕ
+within_32 n = if nat_lt n (2 ^ 32) then Some n else None
 
 -- the number at a place among numbers of four bytes
 abbrev pub number : List ℕ → ℕ → ℕ

@@ -1,10 +1,16 @@
 -- Numbers in octal digits (ASCII), as modes are encoded in tree objects ("Pro Git", "Git Objects") and in resolve-undo
 -- (gitformat-index, "Resolve undo").
-use Rattle.std.specs.Prelude.{◌≡◌, ◌≢◌, ℕ, ◌+◌, ◌-◌, ◌*◌, ◌^◌, ◌<◌, ◌≤◌, List, [], ◌∷◌, All, length}
+use Rattle.std.specs.Prelude.{◌≡◌, ◌≢◌, ℕ, ◌+◌, ◌-◌, ◌*◌, ◌^◌, ◌<◌, ◌≤◌, ◌==◌, ◌&&◌, nat_le, nat_lt, not, Bool, List, [], ◌∷◌}
+use Rattle.std.specs.Prelude.{All, length, Option, Some, None, if◌then◌else◌}
+use Rattle.std.specs.List.{list_all}
 
 -- `0` to `7`
 abbrev pub IsOctalDigit : ℕ → Type 0
 IsOctalDigit b = (48 ≤ b) × (b ≤ 55)
+
+-- the same as a test
+abbrev pub is_octal_digit : ℕ → Bool
+is_octal_digit b = nat_le 48 b && nat_le b 55
 
 -- what octal digits stand for, by their places
 abbrev pub octal_value : List ℕ → ℕ
@@ -17,3 +23,9 @@ pub record IsOctal (text : List ℕ) (n : ℕ) : Type 0 where
   pub digits : All IsOctalDigit text
   pub value : n ≡ octal_value text
   pub fits : n < 2 ^ 32
+
+-- the number of a text: of one or more octal digits, where it has at most 32 bits
+unfoldable pub octal_number : List ℕ → Option ℕ
+octal_number text =
+    if not (length text == 0) && list_all is_octal_digit text
+    then (if nat_lt (octal_value text) (2 ^ 32) then Some (octal_value text) else None) else None

@@ -1,7 +1,7 @@
 -- What the readers find at the front of bytes, as functions: a value and the rest, or nothing (gitformat-index). The
 -- relations of Numbers and Offset say the same in the format's words. Clauses that a user meets cite none of these.
-use Rattle.std.specs.Prelude.{ℕ, ◌+◌, ◌-◌, ◌*◌, ◌%◌, ◌^◌, ◌==◌, ◌&&◌, nat_le, nat_lt, List, [], ◌∷◌, length, take, drop}
-use Rattle.std.specs.Prelude.{Bool, Option, Some, None, if◌then◌else◌, position}
+use Rattle.std.specs.Prelude.{ℕ, ◌+◌, ◌*◌, ◌%◌, ◌^◌, ◌==◌, nat_lt, List, [], ◌∷◌, length, take, drop}
+use Rattle.std.specs.Prelude.{Option, Some, None, if◌then◌else◌, position}
 use Rattle.std.specs.Option.{option_map}
 use Rattle.index_parts.specs.Numbers.{be}
 use Rattle.index_parts.specs.Id.{id_len, make_id}
@@ -42,19 +42,3 @@ offset_from high (b ∷ bytes) =
 
 abbrev pub offset_at : List ℕ → Option (ℕ × List ℕ)
 offset_at bytes = offset_from 0 bytes
-
-abbrev pub is_octal_digit : ℕ → Bool
-is_octal_digit b = nat_le 48 b && nat_le b 55
-
--- the number that octal digits encode, where the digits before them stand for so much
-abbrev pub octal_from : ℕ → List ℕ → Option ℕ
-octal_from high [] = Some high
-octal_from high (b ∷ text) =
-    if is_octal_digit b then
-    (if nat_lt (high * 8 + (b - 48)) (2 ^ 32) then octal_from (high * 8 + (b - 48)) text else None)
-    else None
-
--- the number of one octal digit or more
-abbrev pub octal_of : List ℕ → Option ℕ
-octal_of [] = None
-octal_of (b ∷ text) = octal_from 0 (b ∷ text)

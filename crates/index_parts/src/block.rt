@@ -1,6 +1,6 @@
 //! Small pieces that go out as one.
 
-ghost use Rattle.std.specs.Prelude.{◌≡◌, ◌≤◌, ℕ, [], Some, false, length, take};
+ghost use Rattle.std.specs.Prelude.{◌≡◌, ◌≤◌, [], Some, false, length, take};
 ghost use Rattle.index_parts.specs.Gathered.{Gathered, cut_to};
 
 use crate::hash::io::Out;

@@ -1,6 +1,7 @@
 //! What bytes of a known number mean, in themselves: big-endian numbers, and zeros.
 
-ghost use Rattle.std.specs.Prelude.{◌≡◌, length};
+ghost use Rattle.std.specs.Int.{to_be_bytes, w64};
+ghost use Rattle.std.specs.Prelude.{◌≡◌, ◌≤◌, ◌+◌, drop, length, take};
 ghost use Rattle.index_parts.specs.Id.{is_null};
 ghost use Rattle.index_parts.specs.Numbers.{be};
 
@@ -27,6 +28,26 @@ pub fn from_be_u64(bytes: &[u8]) -> u64
 {
     u64::from_be_bytes([
         bytes[0], bytes[1], bytes[2], bytes[3], bytes[4], bytes[5], bytes[6], bytes[7],
+    ])
+}
+
+/// The bytes that [`word_at`] takes at once.
+pub const WORD_LEN: usize = 8;
+
+/// The eight bytes at a place, as one number.
+pub fn word_at(bytes: &[u8], at: usize) -> u64
+    requires { at + 8 ≤ length bytes.now }
+    ensures { to_be_bytes w64 result ≡ take 8 (drop at bytes.now) }
+{
+    u64::from_be_bytes([
+        bytes[at],
+        bytes[at + 1],
+        bytes[at + 2],
+        bytes[at + 3],
+        bytes[at + 4],
+        bytes[at + 5],
+        bytes[at + 6],
+        bytes[at + 7],
     ])
 }
 

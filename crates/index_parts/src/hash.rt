@@ -1,6 +1,6 @@
 //! Object ids of two kinds, and the digests that they are made of.
 
-ghost use Rattle.std.specs.Prelude.{◌≡◌, ◌≤◌, ◌++◌, ℕ, List, [], length, Some};
+ghost use Rattle.std.specs.Prelude.{◌≡◌, ◌≤◌, ◌↔◌, ◌++◌, ℕ, List, [], length, IsTrue, Some};
 ghost use Rattle.std.specs.Fmt.{WritesOnOk};
 ghost use Rattle.hex.specs.Hex.{encode_lower};
 ghost use Rattle.index_parts.specs.Digest.{digest, hasher_kind, Holds};
@@ -107,6 +107,14 @@ impl ObjectId {
             ObjectId::Sha1(_) => Kind::Sha1,
             ObjectId::Sha256(_) => Kind::Sha256,
         }
+    }
+
+    /// Whether the id is of this kind. It has as many bytes as its kind has.
+    pub fn is_of_kind(&self, kind: Kind) -> bool
+        ensures same { IsTrue result ↔ id_kind self.now ≡ kind }
+        ensures len { length (id_bytes self.now) ≡ id_len (id_kind self.now) }
+    {
+        self.as_bytes().len() == kind.len_in_bytes()
     }
 
     /// Whether all bytes are zero.

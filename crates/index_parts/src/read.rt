@@ -7,10 +7,10 @@ ghost use Rattle.std.specs.Prelude.{◌≡◌, ◌==◌, ◌+◌, ◌*◌, ◌�
 ghost use Rattle.std.specs.Option.{option_map};
 ghost use Rattle.index_parts.specs.Numbers.{number};
 ghost use Rattle.index_parts.specs.Limit.{IsWithin, is_within};
+ghost use Rattle.index_parts.specs.Octal.{is_octal_digit, octal_number};
 ghost use Rattle.index_parts.specs.ReadingSteps.{piece_at, split_at_byte, offset_at, number_at, object_id_at};
-ghost use Rattle.index_parts.specs.ReadingSteps.{is_octal_digit, octal_of};
 
-pub use crate::bytes::is_null;
+pub use crate::bytes::{WORD_LEN, is_null, word_at};
 use crate::bytes::{from_be_u32, from_be_u64};
 use crate::hash::{Kind, ObjectId};
 
@@ -72,7 +72,8 @@ pub fn u32(bytes: &[u8]) -> Option<(u32, &[u8])>
     Some((from_be_u32(front), rest))
 }
 
-fn is_octal_digit(b: u8) -> bool
+/// Whether it is an octal digit.
+pub fn is_octal_digit(b: u8) -> bool
     ensures { result ≡ is_octal_digit b }
 {
     b >= b'0' && b <= b'7'
@@ -81,7 +82,7 @@ fn is_octal_digit(b: u8) -> bool
 /// The number of one octal digit or more; None where another byte stands among them, and where it has more than 32
 /// bits.
 pub fn octal(text: &[u8]) -> Option<u32>
-    ensures { result ≡ octal_of text.now }
+    ensures { result ≡ octal_number text.now }
 {
     if text.is_empty() {
         return None;

@@ -2,7 +2,7 @@
 //!
 //! All numbers are big-endian (gitformat-index). No call here takes memory.
 
-ghost use Rattle.std.specs.Prelude.{◌≡◌, ◌<◌, ℕ, List, length, IfSome, IfNone, false};
+ghost use Rattle.std.specs.Prelude.{◌<◌, ℕ, List, length, IfSome, IfNone};
 ghost use Rattle.index_parts.specs.Offset.{IsOffset, StartsWithOffset, offset_bytes};
 ghost use Rattle.index_parts.specs.Numbers.{StartsWithNumber, IsUpTo};
 ghost use Rattle.index_parts.specs.Puts.{Puts};

@@ -18,7 +18,6 @@ use index_parts::hash::io::Out;
 use index_text::block::{put_block, put_text};
 use std::alloc::{AllocError, Global};
 use std::io;
-use std::io::ErrorKind;
 
 /// How many parts are drawn part by part, at most.
 const MOST_PARTS: usize = 64;

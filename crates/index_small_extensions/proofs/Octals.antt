@@ -5,21 +5,20 @@ use Rattle.std.specs.Prelude.{◌≢◌}
 use Rattle.std.proofs.lemmas.Bool.{eqb-true, ne_eqb}
 use Rattle.std.proofs.lemmas.List.Elements.{All-cons, All-head}
 use Rattle.index_parts.proofs.Octals.{octal_takes, octal_again, octal_without, octal_some}
-use Rattle.index_parts.specs.Octal.{IsOctalDigit, IsOctal}
-use Rattle.index_parts.specs.ReadingSteps.{octal_of}
+use Rattle.index_parts.specs.Octal.{IsOctalDigit, IsOctal, octal_number}
 use Rattle.index_small_extensions.specs.ModeDigits.{IsMode, plain, plus}
 use Rattle.index_small_extensions.specs.ResolveUndoSteps.{mode_of}
 
 mode_by : (b : ℕ) (text : List ℕ) (n : ℕ) (t : Bool) → eqb b 43 ≡ t
-    → cond t (octal_of text) (octal_of (b ∷ text)) ≡ Some n → IsMode (b ∷ text) n
+    → cond t (octal_number text) (octal_number (b ∷ text)) ≡ Some n → IsMode (b ∷ text) n
 mode_by b text n true p e = plus text (ap (λ (s : ℕ). s ∷ text) (eqb-true b 43 p)) (octal_takes text n e)
 mode_by b text n false p e = plain (octal_takes (b ∷ text) n e)
 
 pub mode_takes : (text : List ℕ) (n : ℕ) → mode_of text ≡ Some n → IsMode text n
-mode_takes [] n e = absurd cc
+mode_takes [] n e = absurd ((octal_takes [] n e).some refl)
 mode_takes (b ∷ text) n e = mode_by b text n (eqb b 43) refl e
 
-unsigned : (text : List ℕ) (n : ℕ) → IsOctal text n → mode_of text ≡ octal_of text
+unsigned : (text : List ℕ) (n : ℕ) → IsOctal text n → mode_of text ≡ octal_number text
 unsigned [] n h = absurd (h.some refl)
 unsigned (b ∷ text) n h =
     let digit = All-head IsOctalDigit b text h.digits in

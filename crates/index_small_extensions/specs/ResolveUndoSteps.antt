@@ -1,7 +1,8 @@
 -- What the readers of resolve-undo find at the front of bytes, as functions: a value and the rest, or nothing
 -- (gitformat-index, "Resolve undo"). Public clauses cite none of these.
 use Rattle.std.specs.Prelude.{ℕ, ◌==◌, List, [], ◌∷◌, Option, Some, None, if◌then◌else◌}
-use Rattle.index_parts.specs.ReadingSteps.{◌>>=◌, split_at_byte, octal_of, object_id_at}
+use Rattle.index_parts.specs.Octal.{octal_number}
+use Rattle.index_parts.specs.ReadingSteps.{◌>>=◌, split_at_byte, object_id_at}
 use Rattle.index_parts.specs.declared.hash.Kind.{Kind}
 use Rattle.index_small_extensions.specs.ResolveUndo.{PathStages}
 use Rattle.index_small_extensions.specs.declared.resolve_undo.Stage.{Stage}
@@ -9,8 +10,8 @@ use Rattle.index_small_extensions.specs.declared.resolve_undo.path.LentPath.{Len
 
 -- the mode that a plus or nothing and octal digits encode
 abbrev pub mode_of : List ℕ → Option ℕ
-mode_of [] = None
-mode_of (b ∷ text) = if b == 43 then octal_of text else octal_of (b ∷ text)
+mode_of [] = octal_number []
+mode_of (b ∷ text) = if b == 43 then octal_number text else octal_number (b ∷ text)
 
 -- a mode up to a NUL
 unfoldable pub mode_at : List ℕ → Option (ℕ × List ℕ)

@@ -1,6 +1,6 @@
 //! The offset table, which names where blocks of entries begin (gitformat-index, "Index Entry Offset Table").
 
-ghost use Rattle.std.specs.Prelude.{◌≡◌, ◌<◌, List, [], length, Some, IfOk, IfErr, IfSome, IfNone};
+ghost use Rattle.std.specs.Prelude.{◌<◌, List, [], length, Some, IfOk, IfErr, IfSome, IfNone};
 ghost use Rattle.std.specs.Option.{option_map};
 ghost use Rattle.index_extensions.specs.ExtensionValue.{IsRead};
 ghost use Rattle.index_small_extensions.specs.OffsetTable.{HasTable, IsEntryBlock, AreEntryBlocks, IsTable, IsFound};

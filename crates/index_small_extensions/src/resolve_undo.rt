@@ -2,7 +2,6 @@
 
 ghost use Rattle.std.specs.Prelude.{◌≡◌, ◌<◌, ◌∷◌, [], map, None, IfOk, IfErr, slice_set};
 ghost use Rattle.std.specs.Option.{option_map};
-ghost use Rattle.bstr.specs.Owned.{bstring_bytes};
 ghost use Rattle.index_extensions.specs.ExtensionValue.{IsRead};
 ghost use Rattle.index_small_extensions.specs.ResolveUndo.{HasResolvePath, path_stages, IsResolveUndo, side_of};
 

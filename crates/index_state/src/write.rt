@@ -1,6 +1,6 @@
 //! Writing an index as the bytes of a file.
 
-ghost use Rattle.std.specs.Prelude.{◌≡◌, ◌↔◌, false, IfOk, OnOk};
+ghost use Rattle.std.specs.Prelude.{◌≡◌, ◌↔◌, IfOk, OnOk};
 ghost use Rattle.index_parts.specs.Taking.{Hashes};
 ghost use Rattle.index_format.specs.Image.{body, image_version};
 ghost use Rattle.index_format.specs.Storable.{IsWritable};

@@ -1,6 +1,6 @@
 -- Which row a refusal is of: it is there.
-use Rattle.std.proofs.Common.{◌≡◌, ◌∙◌, ℕ, ◌<◌, ◌≤◌, ◌&&◌, ◌==◌, List, [], ◌∷◌, ◌++◌, All, Bool, true, false, not, cond}
-use Rattle.std.proofs.Common.{Option, Some, None, Err, length, get_or, inr, nat_eq, nat_lt, refl, sym, ap, subst, arith}
+use Rattle.std.proofs.Common.{◌≡◌, ◌∙◌, ℕ, ◌≤◌, ◌&&◌, ◌==◌, List, ◌∷◌, ◌++◌, All, Bool, true, false, not, cond}
+use Rattle.std.proofs.Common.{Option, Some, None, Err, length, get_or, inr, nat_lt, refl, sym, ap, subst, arith}
 use Rattle.std.proofs.Common.{length-append}
 use Rattle.std.specs.Prelude.{position, unwrap_or}
 use Rattle.std.specs.List.{position_or_len}

@@ -1,11 +1,9 @@
 -- What is collected of trees, one tree more, and as a caller gets it.
 use Rattle.std.proofs.Common.{◌≡◌, ◌∙◌, ℕ, ◌+◌, ◌≤◌, ◌<◌, zero, suc, List, [], ◌∷◌, ◌++◌, Bool, true, false, length, take, drop}
-use Rattle.std.proofs.Common.{Some, None, Option, cond, nat_eq, refl, sym, ap, subst, arith, length-append, set, get_or}
-use Rattle.std.specs.Prelude.{flat_map}
+use Rattle.std.proofs.Common.{Some, None, cond, nat_eq, refl, sym, ap, arith, length-append, set, get_or}
 use Rattle.std.proofs.Math.Seq.{take-length}
 use Rattle.std.proofs.lemmas.Bool.{eqb-true, eqb-false, eq-eqb}
-use Rattle.std.proofs.lemmas.List.{drop-append-le, drop-drop, drop-set-lt, length-drop, take_all, take_more_set, length-take-le, take-append-drop, take-append-le, take_more}
-use Rattle.gix_index.specs.ObjectId.{ObjectId}
+use Rattle.std.proofs.lemmas.List.{drop-append-le, drop-drop, drop-set-lt, length-drop, take_more_set, length-take-le, take-append-drop, take-append-le, take_more}
 use Rattle.gix_index.specs.Trees.Objects.{Taken, with_objects}
 use Rattle.index_table.specs.Table.{padded_id}
 use Rattle.index_table_trees.specs.Collecting.{cut, piece_rows, pieces_len}

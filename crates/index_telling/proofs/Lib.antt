@@ -1,3 +1,4 @@
+mod Divisions
 mod Mappings
 mod Readings
 mod SharedIndex

@@ -1,14 +1,38 @@
--- What is told of the parts of a file's bytes, which have a fault or none.
-use Rattle.std.proofs.Common.{ℕ, List, Option, Some, None, inl, inr, refl}
+-- What is told of the parts of a file's bytes, which have a fault or none, and how a command ends that has told it.
+use Rattle.std.proofs.Common.{◌≡◌, ℕ, List, Option, Some, None, Result, Ok, Err, inl, inr, refl, subst}
+use Rattle.std.specs.Io.KnownBytes.{Appends}
 use Rattle.gix_index.specs.DecodeError.{Error}
 use Rattle.gix_index.specs.Disk.World.{Known}
+use Rattle.gix_index.specs.Hashing.Out.{Ghosts}
 use Rattle.gix_index.specs.Kind.{Kind}
 use Rattle.gix_index.specs.Record.{Record}
-use Rattle.index_failures.specs.Telling.{AnyText}
+use Rattle.index_failures.specs.Nuls.{AreShown}
+use Rattle.index_failures.specs.Telling.{AnyText, EndsTelling, whole}
+use Rattle.index_failures.specs.declared.failure.Failure.{Failure}
+use Rattle.index_inspect.specs.Division.{Divides}
 use Rattle.index_inspect.specs.Remains.{last_begin}
+use Rattle.index_inspect.specs.declared.division.Division.{Division}
+use Rattle.index_map.specs.Lines.{map_lines}
 use Rattle.index_map.specs.declared.part.Part.{Part}
 use Rattle.index_text.specs.declared.lines.Lines.{Lines}
+use Rattle.index_telling.specs.Dividing.{EndsAsDivided, IsDivisionOfFile}
 use Rattle.index_telling.specs.Mapping.{IsDamagedMap, IsMap, IsOfDamaged, IsOfParts}
+
+abbrev pub parts_with : (text : List Record → List Part → List ℕ) (known : Known) (kind : Kind) (d : Division)
+    → IsDivisionOfFile known kind d → (fault : Option Error) → d.fault ≡ fault
+    → IsOfParts text fault known kind (text d.entries.records d.parts.items)
+parts_with text known kind d h fault is = record {
+  bytes = h.bytes;
+  held = h.held;
+  records = d.entries.records;
+  parts = d.parts.items;
+  divided = subst (λ (f : Option Error). Divides kind h.bytes d.entries.records d.parts.items f) is h.divides;
+  is = refl;
+}
+
+abbrev pub parts_of : (text : List Record → List Part → List ℕ) (known : Known) (kind : Kind) (d : Division)
+    → IsDivisionOfFile known kind d → IsOfParts text d.fault known kind (text d.entries.records d.parts.items)
+parts_of text known kind d h = parts_with text known kind d h d.fault refl
 
 -- the same of a map, where the style shows the paths
 pub any_map : (style : Lines) (fault : Option Error) (known : Known) (kind : Kind) (told : List ℕ)
@@ -21,3 +45,45 @@ pub any_parts : (text : List Record → List Part → List ℕ) (fault : Option 
     → AnyText (IsOfParts text None known kind) (IsOfDamaged text known kind) told
 any_parts text None known kind told is = inl is
 any_parts text (Some e) known kind told is = inr (last_begin is.parts, e, (is, refl))
+
+-- ---- how a command ends that has told all
+
+module _ {T : Type 0} (writer : Ghosts T) (old new : T) (Fault : Failure → Type 0) (path : List ℕ) (known : Known)
+    (kind : Kind) (d : Division) (divided : IsDivisionOfFile known kind d) (answer : Result (Unit {0}) Failure)
+    (ends : EndsAsDivided path d answer) where
+  told_by : (Text : List ℕ → Type 0) (Damaged : ℕ → Error → List ℕ → Type 0) (text : List ℕ)
+      → Appends (writer.taken old) (writer.taken new) text → (d.fault ≡ None → Text text)
+      → ((e : Error) → d.fault ≡ Some e → Damaged (last_begin d.parts.items) e text) → (r : Result (Unit {0}) Failure)
+      → EndsAsDivided path d r → EndsTelling writer old new Text Damaged Fault path r
+  told_by Text Damaged text grew sound damaged (Ok x) h = record {
+    told = record { text = text; is = sound h.whole; grew = grew };
+    refused = tt;
+  }
+  told_by Text Damaged text grew sound damaged (Err f) h =
+      let b = h.damaged in
+      record {
+        told = tt;
+        refused = whole b.file (last_begin d.parts.items) b.fault b.is b.names (record {
+          text = text;
+          is = damaged b.fault b.first;
+          grew = grew;
+        });
+      }
+
+  pub parts_told : (text : List Record → List Part → List ℕ)
+      → Appends (writer.taken old) (writer.taken new) (text d.entries.records d.parts.items)
+      → EndsTelling writer old new (IsOfParts text None known kind) (IsOfDamaged text known kind) Fault path answer
+  parts_told text grew =
+      let told : List ℕ = text d.entries.records d.parts.items in
+      told_by (IsOfParts text None known kind) (IsOfDamaged text known kind) told grew
+      (λ none. parts_with text known kind d divided None none)
+      (λ e some. (parts_with text known kind d divided (Some e) some, refl)) answer ends
+
+  pub map_told : (style : Lines) → AreShown style d.entries.records
+      → Appends (writer.taken old) (writer.taken new) (map_lines style d.entries.records d.parts.items)
+      → EndsTelling writer old new (IsMap style None known kind) (IsDamagedMap style known kind) Fault path answer
+  map_told style shown grew =
+      let told : List ℕ = map_lines style d.entries.records d.parts.items in
+      told_by (IsMap style None known kind) (IsDamagedMap style known kind) told grew
+      (λ none. (parts_with (map_lines style) known kind d divided None none, shown))
+      (λ e some. ((parts_with (map_lines style) known kind d divided (Some e) some, refl), shown)) answer ends

@@ -1,4 +1,5 @@
 pub mod Calls
+pub mod Dividing
 pub mod Mapping
 pub mod Report
 pub mod Salvaging

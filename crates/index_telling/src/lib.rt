@@ -3,6 +3,7 @@
 
 pub mod map;
 pub mod map_svg;
+mod mapping;
 pub mod salvage;
 mod shared;
 pub mod show;

@@ -2,14 +2,12 @@
 
 ghost use Rattle.index_telling.specs.Mapping.{MapsFile};
 
+use crate::mapping::{division_at, ended};
 use gix_index::file::folder::Folder;
 use gix_index::hash::Kind;
 use gix_index::hash::io::Out;
 use index_failures::failure::Failure;
-use index_failures::index::{bytes_at, out_of_memory};
 use index_failures::nul::check_paths;
-use index_inspect::divide;
-use index_inspect::remains::last_begin;
 use index_map::write_map;
 use index_text::lines::Lines;
 use std::alloc::Global;
@@ -30,21 +28,10 @@ pub fn map<'a, D: Folder, W: Out>(
 ) -> Result<(), Failure<'a>>
     ensures { MapsFile style D.Folder folder.now kind path.now W.Out out.old out.new result }
 {
-    let (bytes, _) = bytes_at(folder, alloc, path)?;
-    let Ok(division) = divide(alloc, kind, &bytes) else {
-        return Err(out_of_memory(path));
-    };
+    let division = division_at(folder, alloc, kind, path)?;
     check_paths(style, &division.entries.as_slice(), path)?;
     if let Err(e) = write_map(alloc, &division.entries, &division.parts, style, out) {
         return Err(Failure::Output(e));
     }
-    let offset = last_begin(&division.parts);
-    match division.fault {
-        None => Ok(()),
-        Some(fault) => Err(Failure::Damaged {
-            path,
-            offset,
-            fault,
-        }),
-    }
+    ended(path, division)
 }

@@ -2,13 +2,11 @@
 
 ghost use Rattle.index_telling.specs.Mapping.{DrawsFile};
 
+use crate::mapping::{division_at, ended};
 use gix_index::file::folder::Folder;
 use gix_index::hash::Kind;
 use gix_index::hash::io::Out;
 use index_failures::failure::Failure;
-use index_failures::index::{bytes_at, out_of_memory};
-use index_inspect::divide;
-use index_inspect::remains::last_begin;
 use index_picture::write_svg;
 use std::alloc::Global;
 
@@ -26,20 +24,9 @@ pub fn map_svg<'a, D: Folder, W: Out>(
 ) -> Result<(), Failure<'a>>
     ensures { DrawsFile D.Folder folder.now kind path.now W.Out out.old out.new result }
 {
-    let (bytes, _) = bytes_at(folder, alloc, path)?;
-    let Ok(division) = divide(alloc, kind, &bytes) else {
-        return Err(out_of_memory(path));
-    };
+    let division = division_at(folder, alloc, kind, path)?;
     if let Err(e) = write_svg(alloc, &division.entries, &division.parts, out) {
         return Err(Failure::Output(e));
     }
-    let offset = last_begin(&division.parts);
-    match division.fault {
-        None => Ok(()),
-        Some(fault) => Err(Failure::Damaged {
-            path,
-            offset,
-            fault,
-        }),
-    }
+    ended(path, division)
 }

@@ -1,6 +1,6 @@
 //! Paths as git shows them in lines.
 
-ghost use Rattle.std.specs.Prelude.{◌≡◌, ◌++◌, ◌∷◌, OnOk, true};
+ghost use Rattle.std.specs.Prelude.{◌≡◌, ◌++◌, OnOk, true};
 ghost use Rattle.std.specs.List.{flat_map, list_all};
 ghost use Rattle.index_text.specs.Quoted.{behind_backslash, has_letter, is_usual, letter_of, quoted, quoted_byte, three_octal};
 

@@ -30,6 +30,8 @@ SaysOfInput (errors.NotRegular at) = ⊥
 SaysOfInput (errors.Empty at) = ⊥
 SaysOfInput (errors.NoIndex at start) = ⊥
 SaysOfInput (errors.KindNotTold at) = ⊥
+SaysOfInput (errors.OtherKind at) = ⊥
+SaysOfInput (errors.NoCommonDir at) = ⊥
 SaysOfInput (errors.NoGitDir at) = ⊥
 SaysOfInput errors.NoRepository = ⊥
 

@@ -1,7 +1,6 @@
 //! The files of the system, and the standard input as one of them.
 
 ghost use Rattle.std.specs.Prelude.{false, None, ⊤};
-ghost use Rattle.std.specs.Io.{ReadsAtMost};
 ghost use Rattle.gix_index.specs.Disk.World.{Unknown};
 ghost use Rattle.gix_index.specs.OnDisk.Folders.{LeavesFolder};
 

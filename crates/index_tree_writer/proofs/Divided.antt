@@ -1,6 +1,6 @@
 -- Records by whether a merge has decided on them, and which of them lie below a directory.
 use Rattle.std.proofs.Common.{◌≡◌, ℕ, ◌+◌, ◌<◌, List, [], ◌∷◌, ◌++◌, All, Bool, true, false, Contains}
-use Rattle.std.proofs.Common.{Some, None, length, take, get_or, not, cond, ◌||◌, append-nil, refl, sym, ap, subst, ◌∙◌}
+use Rattle.std.proofs.Common.{Some, None, length, take, get_or, not, cond, ◌||◌, append-nil, refl, sym, ap, ◌∙◌}
 use Rattle.std.proofs.Common.{arith}
 use Rattle.std.specs.Prelude.{Result, Ok, Err, IfOk, IfErr, filter}
 use Rattle.std.specs.List.{list_any}

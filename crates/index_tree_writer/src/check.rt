@@ -1,9 +1,8 @@
 //! Whether entries have trees.
 
-ghost use Rattle.std.specs.Prelude.{◌≡◌, ◌↔◌, ◌<◌, ◌^◌, ◌++◌, ◌⊎◌, [], ◌∷◌, ℕ, List, IsTrue, IfOk, IfErr, OnOk, length};
+ghost use Rattle.std.specs.Prelude.{◌≡◌, ◌<◌, ◌^◌, ◌++◌, ◌⊎◌, [], ◌∷◌, ℕ, List, IfOk, IfErr, OnOk, length};
 ghost use Rattle.std.specs.Prelude.{take};
 ghost use Rattle.std.specs.List.{HoldsAt};
-ghost use Rattle.index_parts.specs.Id.{id_bytes, id_kind, id_len};
 ghost use Rattle.index_entries.specs.Order.{IsStrictlyOrdered};
 ghost use Rattle.index_tree_writer.specs.ApartSteps.{AreBeginnings, EndsWith, LiesInOne};
 ghost use Rattle.index_tree_writer.specs.Refusals.{AreFit, RecordHasFault, IsFit, AreRefused, SaysTreesFault};
@@ -11,25 +10,17 @@ ghost use Rattle.index_tree_writer.specs.SharedSteps.{IsPassed};
 ghost use Rattle.index_tree_writer.specs.Staged.{Staged};
 
 use crate::apart::{beginnings_of, last_above};
-use crate::error::{Error, NameFault};
+use crate::error::Error;
 use crate::leaf::{Leaf, is_removed, leaf_at};
 use crate::shared::fault_behind;
 use bstr::BString;
 use index_entries::slice::EntrySlice;
 use index_objects::check::ComponentCheck;
-use index_parts::hash::{Kind, ObjectId};
+use index_parts::hash::Kind;
 use std::alloc::Global;
 
 /// How many levels of directories may lie below the root.
 pub(crate) const MAX_LEVELS: u32 = 2048;
-
-/// Whether the id is of the kind.
-fn is_of(id: &ObjectId, kind: Kind) -> bool
-    ensures same { IsTrue result ↔ id_kind id.now ≡ kind }
-    ensures len { length (id_bytes id.now) ≡ id_len (id_kind id.now) }
-{
-    id.as_bytes().len() == kind.len_in_bytes()
-}
 
 /// Fails where what the entry at this index says of itself has no place in a tree. The path before it has one.
 fn check_entry<C: ComponentCheck>(
@@ -70,7 +61,7 @@ fn check_entry<C: ComponentCheck>(
             fault,
         });
     }
-    if !is_of(&entry.id, kind) {
+    if !entry.id.is_of_kind(kind) {
         return Err(Error::OtherKind {
             path: BString::from_slice(alloc, path)?,
         });

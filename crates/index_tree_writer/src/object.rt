@@ -1,6 +1,6 @@
 //! The object of a tree.
 
-ghost use Rattle.std.specs.Prelude.{◌≡◌, ◌++◌, OnOk, OnErr};
+ghost use Rattle.std.specs.Prelude.{◌≡◌, ◌++◌, OnOk};
 ghost use Rattle.index_tree_writer.specs.Objects.{tree_mode_text, tree_entry_bytes, tree_id};
 
 use index_objects::object::tree::EntryKind;

@@ -1,6 +1,6 @@
 //! What is wrong with a path, where the path of an entry before it is known to be right.
 
-ghost use Rattle.std.specs.Prelude.{◌≡◌, ◌⊎◌, ◌<◌, ◌-◌, ◌==◌, List, None, IfSome, count_by, length, take};
+ghost use Rattle.std.specs.Prelude.{◌≡◌, ◌⊎◌, ◌<◌, ◌-◌, ◌==◌, None, IfSome, count_by, length, take};
 ghost use Rattle.std.specs.List.{HoldsAt};
 ghost use Rattle.index_tree_writer.specs.Refusals.{IsMisnamed, IsTreePath};
 ghost use Rattle.index_tree_writer.specs.SharedSteps.{IsPassed};

@@ -1,15 +1,13 @@
 //! Whether a cached tree has the ids and the counts that the entries give.
 
-ghost use Rattle.std.specs.Prelude.{◌≡◌, ◌↔◌, ◌<◌, ◌^◌, [], ℕ, List, All, None, Some, IfOk, IfErr, IfSome, IsTrue};
+ghost use Rattle.std.specs.Prelude.{◌≡◌, ◌↔◌, ◌<◌, ◌^◌, ℕ, List, All, None, Some, IfOk, IfErr, IfSome, IsTrue};
 ghost use Rattle.std.specs.Prelude.{OnOk, length};
-ghost use Rattle.std.specs.Cmp.Lexicographic.{slice_cmp};
 ghost use Rattle.std.specs.Option.{option_map};
-ghost use Rattle.std.specs.Ordering.{nat_cmp};
 ghost use Rattle.index_entries.specs.Order.{IsOrderedByPath, IsStrictlyOrdered};
 ghost use Rattle.index_entries.specs.Record.{Record, records_in};
 ghost use Rattle.index_parts.specs.declared.hash.Kind.{Kind};
 ghost use Rattle.index_parts.specs.declared.hash.ObjectId.{ObjectId};
-ghost use Rattle.index_cached_tree.specs.Tree.{name_of, node_of};
+ghost use Rattle.index_cached_tree.specs.Tree.{node_of};
 ghost use Rattle.index_tree_writer.specs.Refusals.{AreFit};
 ghost use Rattle.index_tree_writer.specs.Staged.{merged_in, staged_in, unmerged_in};
 ghost use Rattle.index_tree_writer.specs.TreeIds.{AreRight, IsRight, SaysTreeIds, any_name, spots};
@@ -23,12 +21,12 @@ use crate::sink::Discard;
 use crate::write::write_trees;
 use bstr::BString;
 use index_cached_tree::Tree;
+use index_cached_tree::order::compare_to;
 use index_entries::Entry;
 use index_entries::slice::EntrySlice;
 use index_objects::check::ComponentCheck;
 use index_parts::hash::{Kind, ObjectId};
 use std::alloc::{AllocError, AllocFailed, Global};
-use std::cmp::Ordering;
 use thiserror::Error;
 
 /// How a cached tree and the entries disagree.
@@ -108,13 +106,6 @@ fn no_trees(fault: WriteError) -> Error
         WriteError::Sink { fault: _number } => Error::Memory,
         fault => Error::Entries(fault),
     }
-}
-
-/// How a node's name stands to this one, by their bytes.
-fn compare_to(tree: &Tree, name: &[u8]) -> Ordering
-    ensures { result ≡ slice_cmp nat_cmp (name_of (node_of tree.now)) name.now }
-{
-    tree.name.as_slice().cmp(&name)
 }
 
 /// The child of a node that has this name, if there is one. It is found where the children stand in the order of their

@@ -1,7 +1,7 @@
 //! Writing the trees of entries.
 
-ghost use Rattle.std.specs.Prelude.{◌≡◌, ◌⊎◌, ◌+◌, ◌<◌, ◌≤◌, ◌^◌, ◌++◌, ◌||◌, [], ◌∷◌, ℕ, List, IsTrue, false, length};
-ghost use Rattle.std.specs.Prelude.{drop, map, All, IfOk, IfErr, OnErr, OnOk, Some, slice_range};
+ghost use Rattle.std.specs.Prelude.{◌≡◌, ◌⊎◌, ◌+◌, ◌<◌, ◌≤◌, ◌^◌, ◌++◌, ◌||◌, [], ◌∷◌, List, false, length};
+ghost use Rattle.std.specs.Prelude.{map, IfOk, IfErr, OnErr, OnOk, Some, slice_range};
 ghost use Rattle.std.specs.List.Sorted.{IsPermutation, IsSorted};
 ghost use Rattle.index_objects.specs.declared.object.tree.EntryKind.TheVariants as kinds;
 ghost use Rattle.index_entries.specs.Order.{IsStrictlyOrdered};
@@ -25,13 +25,13 @@ use crate::names::{component_of, tail_of};
 use crate::object::{push_entry, tree_id};
 use crate::sink::Sink;
 use index_cached_tree::Tree;
+use index_cached_tree::order::compare_names;
 use index_entries::slice::EntrySlice;
 use index_objects::check::ComponentCheck;
 use index_objects::object::tree::EntryKind;
 use index_parts::hash::{Kind, ObjectId};
 use smallvec::SmallVec;
 use std::alloc::{AllocError, Global};
-use std::cmp::Ordering;
 
 /// A directory so far: the bytes of its object, the nodes of the directories in it, how many entries lie below it, and
 /// whether one of them is only intended to be added.
@@ -163,13 +163,6 @@ impl Made {
             children,
         })
     }
-}
-
-/// The order of two nodes by the bytes of their names.
-fn compare_names(a: &Tree, b: &Tree) -> Ordering
-    ensures { result ≡ name_cmp (node_of a.now) (node_of b.now) }
-{
-    a.name.as_slice().cmp(&b.name.as_slice())
 }
 
 /// Sorts siblings by name.

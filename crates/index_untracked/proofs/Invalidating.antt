@@ -1,6 +1,6 @@
 -- What an edit of a path makes of the directories of an untracked cache, from one on the way to the next.
 use Rattle.std.proofs.Common.{◌≡◌, ℕ, zero, suc, ◌+◌, ◌-◌, ◌<◌, ◌≤◌, ◌==◌, Bool, true, false, cond, eqb, List, [], ◌∷◌, ◌++◌}
-use Rattle.std.proofs.Common.{All, length, map, take, drop, get_or, Option, Some, None, refl, sym, ap, ◌∙◌, arith}
+use Rattle.std.proofs.Common.{All, length, map, take, drop, get_or, Some, None, refl, sym, ap, ◌∙◌, arith}
 use Rattle.std.specs.Prelude.{◌||◌, IfSome, position}
 use Rattle.std.specs.List.{AllByRecursion, enumerate_from, find, list_any, slice_split}
 use Rattle.std.specs.Option.{option_map, unwrap_or}

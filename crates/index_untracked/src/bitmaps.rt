@@ -1,6 +1,6 @@
 //! What stands behind the directory blocks.
 
-ghost use Rattle.std.specs.Prelude.{◌≡◌, ◌≢◌, ◌<◌, ◌*◌, ◌==◌, ℕ, false, List, All, map, length, Ok, IsTrue, IfOk};
+ghost use Rattle.std.specs.Prelude.{◌≡◌, ◌<◌, ◌*◌, ◌==◌, ℕ, false, List, All, map, length, Ok, IsTrue, IfOk};
 ghost use Rattle.std.specs.Prelude.{IfSome, IfNone};
 ghost use Rattle.std.specs.List.{AllByRecursion, list_any};
 ghost use Rattle.index_bitmaps.specs.Bitmap.{Bitmap, IsBitmap, bitmap};

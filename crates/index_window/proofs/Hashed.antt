@@ -1,5 +1,5 @@
--- What was hashed of a file behind bytes that were read of it, and the next piece.
-use Rattle.std.proofs.Common.{◌≡◌, ◌<◌, ◌≤◌, ◌-◌, ◌++◌, ℕ, List, [], length, take, drop, Bool, true, false, Option, inl, inr}
+-- What was hashed and counted of a file behind bytes that were read of it, and the next piece.
+use Rattle.std.proofs.Common.{◌≡◌, ◌<◌, ◌≤◌, ◌+◌, ◌-◌, ◌++◌, ℕ, List, [], length, take, drop, Bool, true, false, Option, inl, inr}
 use Rattle.std.proofs.Common.{refl, sym, ap, subst, ◌∙◌, append_assoc, append-nil, arith}
 use Rattle.std.specs.Prelude.{◌⊎◌, IfSome, slice_range}
 use Rattle.std.specs.Io.{StartsWith, appended_bytes}
@@ -13,32 +13,37 @@ use Rattle.index_parts.specs.Id.{id_len, make_id}
 use Rattle.index_parts.specs.declared.hash.Hasher.{Hasher}
 use Rattle.index_parts.specs.declared.hash.Kind.{Kind}
 use Rattle.index_parts.specs.declared.hash.ObjectId.{ObjectId}
-use Rattle.index_window.specs.Intact.{digest_id}
-use Rattle.index_window.specs.ReadWhole.{AreHashed, HashesFront}
+use Rattle.index_window.specs.Intact.{checked_part}
+use Rattle.index_window.specs.ReadWhole.{AreHashed, AreFilePieces, PassesFront}
+use Rattle.index_window.specs.declared.disk.Pieces.{Pieces}
 use Rattle.index_window.proofs.Endings.{before_end}
 use Rattle.index_window.proofs.Fronts.{front_grown}
 
--- some bytes behind those before were read, and what is at hand of all of these is hashed up to a place
-pub record IsHashedOn (kind : Kind) (is_held : Bool) (left now : Option (List ℕ)) (hasher : Hasher)
-    (before bytes : List ℕ) (hashed : ℕ) : Type 0 where
+-- some bytes behind those before were read, all of these are so many, and what is at hand of them is hashed up to a
+-- place, if they are to be hashed
+pub record IsHashedOn (kind : Kind) (is_hashed is_held : Bool) (left now : Option (List ℕ)) (hasher : Hasher)
+    (before bytes : List ℕ) (hashed len : ℕ) : Type 0 where
   pub gone : List ℕ
   pub more : List ℕ
   pub same : before ++ more ≡ gone ++ bytes
   pub consumed : Consumes left now more
-  pub holds : Holds hasher (gone ++ take hashed bytes)
+  pub count : len ≡ length (before ++ more)
+  pub holds : is_hashed ≡ true → Holds hasher (gone ++ take hashed bytes)
   pub is_kind : hasher_kind hasher ≡ kind
   pub within : hashed ≤ length bytes - id_len kind
   pub held : is_held ≡ true → gone ≡ []
   pub long : (gone ≡ []) ⊎ (id_len kind ≤ length bytes)
 
-pub hashed_none : (kind : Kind) (is_held : Bool) (left : Option (List ℕ)) (hasher : Hasher) (before : List ℕ)
-    → Holds hasher [] → hasher_kind hasher ≡ kind → IsHashedOn kind is_held left left hasher before before 0
-hashed_none kind is_held left hasher before empty is_kind = record {
+pub hashed_none : (kind : Kind) (is_hashed is_held : Bool) (left : Option (List ℕ)) (hasher : Hasher)
+    (before : List ℕ) (len : ℕ) → Holds hasher [] → hasher_kind hasher ≡ kind → len ≡ length before
+    → IsHashedOn kind is_hashed is_held left left hasher before before 0 len
+hashed_none kind is_hashed is_held left hasher before len empty is_kind long = record {
   gone = [];
   more = [];
   same = append-nil before;
   consumed = Consumes-nil left;
-  holds = empty;
+  count = long ∙ ap length (sym (append-nil before));
+  holds = λ _. empty;
   is_kind = is_kind;
   within = omega arith;
   held = λ _. refl;
@@ -77,11 +82,13 @@ fits before gone more new n same (inr le) long = le
 fits before gone more new n same (inl e) long =
     omega (arith, ap length same, ap length e, length-append before more, length-append gone new)
 
--- a piece came, and was hashed but for the last bytes
-module _ (kind : Kind) (is_held : Bool) (left now next : Option (List ℕ)) (h i : Hasher)
-    (before bytes new after : List ℕ) (hashed behind : ℕ) (s : IsHashedOn kind is_held left now h before bytes hashed)
+-- a piece came, and was passed but for the last bytes
+module _ (kind : Kind) (is_hashed is_held : Bool) (left now next : Option (List ℕ)) (h i : Hasher)
+    (before bytes new after : List ℕ) (hashed behind len count : ℕ)
+    (s : IsHashedOn kind is_hashed is_held left now h before bytes hashed len)
     (grows : StartsWith new bytes) (came : Consumes now next (appended_bytes bytes new))
-    (f : HashesFront kind is_held hashed h i new after behind) where
+    (long : length new ≡ length bytes + count)
+    (f : PassesFront kind is_hashed is_held hashed h i new after behind) where
   pub within_grown : hashed ≤ length new - id_len kind
   within_grown = omega (arith, s.within, starts_with_length new bytes grows)
 
@@ -94,23 +101,35 @@ module _ (kind : Kind) (is_held : Bool) (left now next : Option (List ℕ)) (h i
   consumed_grown : Consumes left next (s.more ++ drop (length bytes) new)
   consumed_grown = Consumes-trans left now next s.more (drop (length bytes) new) s.consumed came
 
-  holds_grown : Holds i (s.gone ++ take (length new - id_len kind) new)
-  holds_grown =
+  count_grown : len + count ≡ length (before ++ (s.more ++ drop (length bytes) new))
+  count_grown = omega (
+    arith,
+    s.count,
+    long,
+    length-append before s.more,
+    length-append before (s.more ++ drop (length bytes) new),
+    length-append s.more (drop (length bytes) new),
+    length-drop (length bytes) new,
+  )
+
+  holds_grown : is_hashed ≡ true → Holds i (s.gone ++ take (length new - id_len kind) new)
+  holds_grown y =
       let end : ℕ = length new - id_len kind in
       let at : hashed ≤ length bytes = omega (arith, s.within) in
       subst (Holds i) (append_assoc s.gone (take hashed bytes) (slice_range new hashed end)
       ∙ ap (λ (l : List ℕ). s.gone ++ l) (front_grown bytes new hashed end grows at within_grown))
-      (f.taken (s.gone ++ take hashed bytes) s.holds)
+      (f.taken y (s.gone ++ take hashed bytes) (s.holds y))
 
   long_grown : (s.gone ≡ []) ⊎ (id_len kind ≤ length new)
   long_grown = longer s.gone bytes new (id_len kind) (starts_with_length new bytes grows) s.long
 
-  step_held : is_held ≡ true → IsHashedOn kind is_held left next i before after behind
+  step_held : is_held ≡ true → IsHashedOn kind is_hashed is_held left next i before after behind (len + count)
   step_held y = let e = f.held y in rw (e.0, e.1) (record {
     gone = s.gone;
     more = s.more ++ drop (length bytes) new;
     same = same_grown;
     consumed = consumed_grown;
+    count = count_grown;
     holds = holds_grown;
     is_kind = f.kind_stays ∙ s.is_kind;
     within = omega arith;
@@ -118,7 +137,7 @@ module _ (kind : Kind) (is_held : Bool) (left now next : Option (List ℕ)) (h i
     long = long_grown;
   })
 
-  step_let_go : is_held ≡ false → IsHashedOn kind is_held left next i before after behind
+  step_let_go : is_held ≡ false → IsHashedOn kind is_hashed is_held left next i before after behind (len + count)
   step_let_go n =
       let e = f.let_go n in
       let end : ℕ = length new - id_len kind in
@@ -128,43 +147,42 @@ module _ (kind : Kind) (is_held : Bool) (left now next : Option (List ℕ)) (h i
         same = same_grown ∙ ap (λ (l : List ℕ). s.gone ++ l) (sym (take-append-drop end new))
             ∙ sym (append_assoc s.gone (take end new) (drop end new));
         consumed = consumed_grown;
-        holds = subst (Holds i) (sym (append-nil (s.gone ++ take end new))) holds_grown;
+        count = count_grown;
+        holds = λ y. subst (Holds i) (sym (append-nil (s.gone ++ take end new))) (holds_grown y);
         is_kind = f.kind_stays ∙ s.is_kind;
         within = omega arith;
         held = λ y. not_both is_held y n;
         long = left_long s.gone new (id_len kind) (cases_lt (length new) (id_len kind)) long_grown;
       })
 
-  pub hashed_on : IsHashedOn kind is_held left next i before after behind
+  pub hashed_on : IsHashedOn kind is_hashed is_held left next i before after behind (len + count)
   hashed_on = by_bool is_held step_held step_let_go
 
   -- the file is at its end
-  digest_grown : (id : ObjectId) → ((m : List ℕ) → Holds i m → id ≡ make_id (hasher_kind i) (digest (hasher_kind i) m))
-      → id ≡ digest_id kind (s.gone ++ new)
-  digest_grown id made =
-      let is_kind : hasher_kind i ≡ kind = f.kind_stays ∙ s.is_kind in
-      made (s.gone ++ take (length new - id_len kind) new) holds_grown
-      ∙ rw (is_kind, checked_of s.gone new (id_len kind) long_grown) refl
+  hashed_all : is_hashed ≡ true → Holds i (checked_part kind (s.gone ++ new))
+  hashed_all y = subst (Holds i) (sym (checked_of s.gone new (id_len kind) long_grown)) (holds_grown y)
 
   whole_grown : IsAtEnd next → IfSome left (λ l. s.more ++ drop (length bytes) new ≡ l)
   whole_grown end = Consumes-whole left next (s.more ++ drop (length bytes) new)
       (λ l. s.more ++ drop (length bytes) new ≡ l) consumed_grown end refl
 
-  end_held : (id : ObjectId) → id ≡ digest_id kind (s.gone ++ new) → IsAtEnd next → is_held ≡ true
-      → AreHashed kind is_held left before after id
-  end_held id is end y = let e = f.held y in rw e.0 (record {
+  end_held : IsAtEnd next → is_held ≡ true
+      → AreFilePieces kind is_hashed is_held left before after (record { len = len + count; hasher = i })
+  end_held end y = let e = f.held y in rw e.0 (record {
     gone = s.gone;
     more = s.more ++ drop (length bytes) new;
     bytes = same_grown;
     whole = whole_grown end;
-    digest = is;
+    len = count_grown;
+    is_kind = f.kind_stays ∙ s.is_kind;
+    hashed = hashed_all;
     held = s.held;
     let_go = λ n. not_both is_held y n;
   })
 
-  end_let_go : (id : ObjectId) → id ≡ digest_id kind (s.gone ++ new) → IsAtEnd next → is_held ≡ false
-      → AreHashed kind is_held left before after id
-  end_let_go id is end n =
+  end_let_go : IsAtEnd next → is_held ≡ false
+      → AreFilePieces kind is_hashed is_held left before after (record { len = len + count; hasher = i })
+  end_let_go end n =
       let e = f.let_go n in
       let at : ℕ = length new - id_len kind in
       let split : s.gone ++ new ≡ (s.gone ++ take at new) ++ drop at new =
@@ -175,17 +193,44 @@ module _ (kind : Kind) (is_held : Bool) (left now next : Option (List ℕ)) (h i
         more = s.more ++ drop (length bytes) new;
         bytes = same_grown ∙ split;
         whole = whole_grown end;
-        digest = is ∙ ap (digest_id kind) split;
+        len = count_grown;
+        is_kind = f.kind_stays ∙ s.is_kind;
+        hashed = λ y. subst (λ (l : List ℕ). Holds i (checked_part kind l)) split (hashed_all y);
         held = λ y. not_both is_held y n;
-        let_go = λ _ long. omega (
+        let_go = λ _ enough. omega (
           arith,
           length-drop at new,
-          fits before s.gone (s.more ++ drop (length bytes) new) new (id_len kind) same_grown long_grown long,
+          fits before s.gone (s.more ++ drop (length bytes) new) new (id_len kind) same_grown long_grown enough,
         );
       })
 
-  pub hashed_end : (id : ObjectId)
-      → ((m : List ℕ) → Holds i m → id ≡ make_id (hasher_kind i) (digest (hasher_kind i) m)) → IsAtEnd next
+  pub hashed_end : IsAtEnd next
+      → AreFilePieces kind is_hashed is_held left before after (record { len = len + count; hasher = i })
+  hashed_end end = by_bool is_held (end_held end) (end_let_go end)
+
+-- ---- the digest of all pieces
+
+module _ (kind : Kind) (is_held : Bool) (left : Option (List ℕ)) (before after : List ℕ) (x : Pieces)
+    (p : AreFilePieces kind true is_held left before after x) where
+  pub digest_of_pieces : (id : ObjectId)
+      → ((m : List ℕ) → Holds x.hasher m → id ≡ make_id (hasher_kind x.hasher) (digest (hasher_kind x.hasher) m))
       → AreHashed kind is_held left before after id
-  hashed_end id made end =
-      by_bool is_held (end_held id (digest_grown id made) end) (end_let_go id (digest_grown id made) end)
+  digest_of_pieces id made = record {
+    gone = p.gone;
+    more = p.more;
+    bytes = p.bytes;
+    whole = p.whole;
+    digest = made (checked_part kind (p.gone ++ after)) (p.hashed refl) ∙ rw p.is_kind refl;
+    held = p.held;
+    let_go = p.let_go;
+  }
+
+  pub held_len : (most : ℕ) → x.len ≤ most → is_held ≡ true → length after ≤ most
+  held_len most le y = omega (
+    arith,
+    le,
+    p.len,
+    ap length p.bytes,
+    ap length (p.held y),
+    length-append p.gone after,
+  )

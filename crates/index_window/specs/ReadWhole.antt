@@ -17,7 +17,9 @@ use Rattle.index_parts.specs.declared.hash.Hasher.{Hasher}
 use Rattle.index_parts.specs.declared.hash.Kind.{Kind}
 use Rattle.index_parts.specs.declared.hash.ObjectId.{ObjectId}
 use Rattle.index_window.specs.Answers.{IsAllOf}
-use Rattle.index_window.specs.Intact.{IsBroken, IsIntact, digest_fault, digest_id, needs_check, trailer_part}
+use Rattle.index_window.specs.Intact.{IsBroken, IsIntact, checked_part, digest_fault, digest_id, needs_check}
+use Rattle.index_window.specs.Intact.{trailer_part}
+use Rattle.index_window.specs.declared.disk.Pieces.{Pieces}
 use Rattle.index_window.specs.declared.disk.WholeFile.{WholeFile}
 use Rattle.index_window.specs.declared.disk.WholeFile.TheVariants as whole
 
@@ -33,14 +35,29 @@ IsUnchecked skip kind stored = IfSome stored (λ file. needs_check skip kind fil
 
 -- ---- hashing
 
--- The bytes at hand were hashed from a place on, but for the last, of which an id has as many. Those before these were
--- let go unless they are held.
-pub record HashesFront (kind : Kind) (is_held : Bool) (from : ℕ) (h i : Hasher) (old new : List ℕ) (hashed : ℕ)
+-- The bytes at hand were passed from a place on, but for the last, of which an id has as many: hashed, if they are to
+-- be. Those before these were let go unless they are held.
+pub record PassesFront (kind : Kind) (is_hashed is_held : Bool) (from : ℕ) (h i : Hasher) (old new : List ℕ) (passed : ℕ)
     : Type 0 where
   pub kind_stays : hasher_kind i ≡ hasher_kind h
-  pub taken : (m : List ℕ) → Holds h m → Holds i (m ++ slice_range old from (length old - id_len kind))
-  pub held : is_held ≡ true → (new ≡ old) × (hashed ≡ length old - id_len kind)
-  pub let_go : is_held ≡ false → (new ≡ drop (length old - id_len kind) old) × (hashed ≡ 0)
+  pub taken : is_hashed ≡ true
+      → (m : List ℕ) → Holds h m → Holds i (m ++ slice_range old from (length old - id_len kind))
+  pub held : is_held ≡ true → (new ≡ old) × (passed ≡ length old - id_len kind)
+  pub let_go : is_held ≡ false → (new ≡ drop (length old - id_len kind) old) × (passed ≡ 0)
+
+-- So many are bytes at hand and all that were left of a file, and a hasher took in all but the last, of which an id has
+-- as many, if they are to be hashed. All of these are at hand, or those last.
+pub record AreFilePieces (kind : Kind) (is_hashed is_held : Bool) (left : Option (List ℕ)) (before after : List ℕ)
+    (x : Pieces) : Type 0 where
+  pub gone : List ℕ
+  pub more : List ℕ
+  pub bytes : before ++ more ≡ gone ++ after
+  pub whole : IfSome left (λ l. more ≡ l)
+  pub len : x.len ≡ length (before ++ more)
+  pub is_kind : hasher_kind x.hasher ≡ kind
+  pub hashed : is_hashed ≡ true → Holds x.hasher (checked_part kind (gone ++ after))
+  pub held : is_held ≡ true → gone ≡ []
+  pub let_go : is_held ≡ false → id_len kind ≤ length before → length after ≡ id_len kind
 
 -- This is the digest of bytes at hand and all that were left of a file. All of these are at hand, or the last, of which
 -- an id has as many.
@@ -57,6 +74,12 @@ pub record AreHashed (kind : Kind) (is_held : Bool) (left : Option (List ℕ)) (
 -- want of memory, or that so many bytes at hand and all that were left of a file are too many
 abbrev pub IsFaultBehind : ℕ → Option (List ℕ) → IoError → Type 0
 IsFaultBehind before left e = IsSizeFault (IfSome left (λ l. IsTooLong (before + length l))) e
+
+pub record ReadsPieces {S : Type 0} (source : Ghosts S) (old : S) (kind : Kind) (is_hashed is_held : Bool)
+    (before after : List ℕ) (result : Result Pieces IoError) : Type 0 where
+  pub pieces : IfOk result (AreFilePieces kind is_hashed is_held (source.remaining old) before after)
+  pub bound : IfOk result (λ x. x.len ≤ max_len)
+  pub fault : source.works old ≡ true → IfErr result (IsFaultBehind (length before) (source.remaining old))
 
 pub record HashesToEnd {S : Type 0} (source : Ghosts S) (old : S) (kind : Kind) (is_held : Bool) (before after : List ℕ)
     (result : Result ObjectId IoError) : Type 0 where

@@ -7,10 +7,12 @@ ghost use Rattle.index_folder.specs.Sources.{ReturnsToStart};
 ghost use Rattle.index_folder.specs.World.{whole_of};
 ghost use Rattle.index_format.specs.declared.error.Error.TheVariants.{Header};
 ghost use Rattle.index_parts.specs.Id.{id_len};
+ghost use Rattle.index_window.specs.Answers.{IsAllOf};
+ghost use Rattle.index_window.specs.Counted.{CountsRest, IsCountedFile};
 ghost use Rattle.index_window.specs.Intact.{digest_id};
-ghost use Rattle.index_window.specs.ReadWhole.{EndsInNull, HashesFront, HashesToEnd, IsComparedFirst, IsReadWhole};
+ghost use Rattle.index_window.specs.ReadWhole.{EndsInNull, HashesToEnd, IsComparedFirst, IsReadWhole};
 ghost use Rattle.index_window.specs.ReadWhole.{HoldsFew, IsFaultBehind, IsRefusalBehind, IsUnchecked};
-ghost use Rattle.index_window.specs.ReadWhole.{LacksHeader};
+ghost use Rattle.index_window.specs.ReadWhole.{LacksHeader, PassesFront, ReadsPieces};
 
 use crate::plan::WINDOW_LEN;
 use index_entries::sizes::HEADER_LEN;
@@ -32,6 +34,24 @@ pub enum WholeFile {
     Held(Vec<u8>, Option<ObjectId>),
     /// The first fault of a file whose header has one. Its bytes aren't held.
     Refused(Error),
+}
+
+/// What counting the bytes of a file gives.
+#[derive(Drop)]
+pub enum CountedFile {
+    /// All bytes of the file.
+    Held(Vec<u8>),
+    /// How many bytes a file has whose header has this fault. They aren't held.
+    Headless(u64, header::Error),
+}
+
+/// What is known of the pieces of a file once it is read to its end.
+#[derive(Drop)]
+struct Pieces {
+    /// How many bytes it has, with those before the first piece.
+    len: u64,
+    /// What took in all bytes but the last, of which an id has as many, if they were to be hashed.
+    hasher: Hasher,
 }
 
 /// Whether a file's last bytes, of which an id has as many, are all zero. It says no of what is no plain file, as a
@@ -78,21 +98,24 @@ fn may_be_compared<S: Source>(
     Ok(!ends_in_null(file, kind, room)?)
 }
 
-/// Hashes the bytes at hand from a place on, but for the last, of which an id has as many. Those before these are let
-/// go unless they are held. Gives the place up to which the bytes at hand are hashed.
-fn hash_front(
+/// Hashes the bytes at hand from a place on, if they are to be hashed, but for the last, of which an id has as many.
+/// Those before these are let go unless they are held. Gives the place up to which the bytes at hand were passed.
+fn pass_front(
     hasher: &mut Hasher,
     kind: Kind,
+    is_hashed: bool,
     is_held: bool,
     bytes: &mut Vec<u8>,
-    hashed: usize,
+    passed: usize,
 ) -> usize
-    requires { hashed ≤ vec_len bytes.old - id_len kind }
-    ensures { HashesFront kind is_held hashed hasher.old hasher.new bytes.old.items bytes.new.items
-        result }
+    requires { passed ≤ vec_len bytes.old - id_len kind }
+    ensures { PassesFront kind is_hashed is_held passed hasher.old hasher.new bytes.old.items
+        bytes.new.items result }
 {
     let end = bytes.len().saturating_sub(kind.len_in_bytes());
-    hasher.update(&bytes[hashed..end]);
+    if is_hashed {
+        hasher.update(&bytes[passed..end]);
+    }
     if is_held {
         return end;
     }
@@ -100,8 +123,37 @@ fn hash_front(
     0
 }
 
-/// Reads a file to its end in pieces, behind bytes that were read of it, and hashes each while it is at hand. The
-/// digest is that of all bytes but the last, of which an id has as many. Only those last stay unless all are held.
+/// Reads a file to its end in pieces, behind bytes that were read of it, and counts all of these. Each piece is hashed
+/// while it is at hand, if it is to be, but for the last bytes, of which an id has as many. Only those last stay unless
+/// all are held.
+fn read_pieces<S: Source>(
+    file: &mut S,
+    kind: Kind,
+    is_hashed: bool,
+    is_held: bool,
+    bytes: &mut Vec<u8>,
+) -> io::Result<Pieces>
+    ensures { ReadsPieces S.Source file.old kind is_hashed is_held bytes.old.items
+        bytes.new.items result }
+{
+    let mut hasher = Hasher::new(kind);
+    let mut passed = 0;
+    let mut len = bytes.len() as u64;
+    'pieces: loop {
+        let count = append_piece(file, bytes)?;
+        len += count as u64;
+        if len > MAX_LEN {
+            return Err(too_long());
+        }
+        passed = pass_front(&mut hasher, kind, is_hashed, is_held, bytes, passed);
+        if count == 0 {
+            return Ok(Pieces { len, hasher });
+        }
+    }
+}
+
+/// Reads a file to its end, behind bytes that were read of it. The digest is that of all bytes but the last, of which
+/// an id has as many. Only those last stay unless all are held.
 fn read_hashed<S: Source>(
     file: &mut S,
     kind: Kind,
@@ -110,20 +162,8 @@ fn read_hashed<S: Source>(
 ) -> io::Result<ObjectId>
     ensures { HashesToEnd S.Source file.old kind is_held bytes.old.items bytes.new.items result }
 {
-    let mut hasher = Hasher::new(kind);
-    let mut hashed = 0;
-    let mut len = bytes.len() as u64;
-    'pieces: loop {
-        let count = append_piece(file, bytes)?;
-        len += count as u64;
-        if len > MAX_LEN {
-            return Err(too_long());
-        }
-        hashed = hash_front(&mut hasher, kind, is_held, bytes, hashed);
-        if count == 0 {
-            return Ok(hasher.finalize());
-        }
-    }
+    let pieces = read_pieces(file, kind, true, is_held, bytes)?;
+    Ok(pieces.hasher.finalize())
 }
 
 /// Reads a file to its end, behind bytes that were read of it. The digest is taken as it is wanted.
@@ -204,6 +244,20 @@ fn refused<S: Source>(
     Ok(refusal(kind, actual, head, fault))
 }
 
+/// Empty room for the first bytes of a file, and how many bytes the room for all of them has, by its metadata.
+fn first_room<S: Source>(alloc: Global, file: &S) -> io::Result<(Vec<u8>, usize)>
+    ensures room { IfOk result (λ found. found.0.items ≡ []) }
+    ensures fault { S.works file.now ≡ true
+        → IfErr result (IsOwnFault (whole_of (S.stored file.now))) }
+{
+    let len = file.status()?.len;
+    if len > MAX_LEN {
+        return Err(too_long());
+    }
+    let room = len as usize + 1;
+    Ok((Vec::with_capacity(alloc, room.min(WINDOW_LEN))?, room))
+}
+
 /// All bytes of a file that was opened, read into room for as many as its metadata says, and the digest of all but the
 /// last, of which an id of the kind has as many; without the digest where it isn't wanted, or where the last bytes are
 /// null. Where the first bytes are no header, none are held, and the rest is read only to compare the digest.
@@ -218,12 +272,7 @@ pub fn bytes_of<S: Source>(
     ensures bound { IfOk result HoldsFew }
     ensures fault { S.works file ≡ true → IfErr result (IsOwnFault (whole_of (S.stored file))) }
 {
-    let len = file.status()?.len;
-    if len > MAX_LEN {
-        return Err(too_long());
-    }
-    let room = len as usize + 1;
-    let mut bytes = Vec::with_capacity(alloc, room.min(WINDOW_LEN))?;
+    let (mut bytes, room) = first_room(alloc, &file)?;
     let is_hashed = may_be_compared(&mut file, kind, skip_hash, &mut bytes)?;
     fill(&mut file, &mut bytes, HEADER_LEN + kind.len_in_bytes())?;
     if let Some(fault) = header_fault(kind, &bytes) {
@@ -233,4 +282,32 @@ pub fn bytes_of<S: Source>(
     bytes.reserve(room.saturating_sub(bytes.len()))?;
     let digest = read_whole(&mut file, kind, is_hashed, &mut bytes)?;
     Ok(WholeFile::Held(bytes, digest))
+}
+
+/// How many bytes a file has that is read to its end, with those that were read of it before. Only the last stay, of
+/// which an id has as many.
+fn count_rest<S: Source>(file: &mut S, kind: Kind, bytes: &mut Vec<u8>) -> io::Result<u64>
+    ensures { CountsRest S.Source file.old bytes.old.items result }
+{
+    bytes.reserve(WINDOW_LEN)?;
+    let pieces = read_pieces(file, kind, false, false, bytes)?;
+    Ok(pieces.len)
+}
+
+/// All bytes of a file that was opened, read into room for as many as its metadata says. Where the first bytes are no
+/// header, none are held: what is given is how many there are, and the fault. No digest is taken.
+pub fn counted_of<S: Source>(alloc: Global, mut file: S, kind: Kind) -> io::Result<CountedFile>
+    requires { S.remaining file ≡ whole_of (S.stored file) }
+    ensures counted { IfOk result (IsCountedFile kind (IsAllOf (S.stored file))) }
+    ensures fault { S.works file ≡ true → IfErr result (IsOwnFault (whole_of (S.stored file))) }
+{
+    let (mut bytes, room) = first_room(alloc, &file)?;
+    fill(&mut file, &mut bytes, HEADER_LEN + kind.len_in_bytes())?;
+    if let Some(fault) = header_fault(kind, &bytes) {
+        let len = count_rest(&mut file, kind, &mut bytes)?;
+        return Ok(CountedFile::Headless(len, fault));
+    }
+    bytes.reserve(room.saturating_sub(bytes.len()))?;
+    read_whole(&mut file, kind, false, &mut bytes)?;
+    Ok(CountedFile::Held(bytes))
 }

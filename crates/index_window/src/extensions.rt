@@ -1,6 +1,6 @@
 //! The extensions of a large index that is read in windows: what is held of them.
 
-ghost use Rattle.std.specs.Prelude.{◌≡◌, ◌≤◌, ◌+◌, ◌++◌, [], drop, length, vec_len, IfOk, IfSome, OnOk};
+ghost use Rattle.std.specs.Prelude.{◌≡◌, ◌≤◌, ◌+◌, ◌++◌, [], drop, vec_len, IfOk, IfSome, OnOk};
 ghost use Rattle.index_parts.specs.Digest.{hasher_kind, Holds};
 ghost use Rattle.index_parts.specs.Id.{id_len};
 ghost use Rattle.index_parts.specs.declared.hash.Kind.TheVariants.{Sha1};
@@ -9,6 +9,7 @@ ghost use Rattle.index_window.specs.Abridged.{held_part, is_known, is_unknown};
 
 use crate::plan::{KEPT_LEN, Plan, WINDOW_LEN, hash_piece};
 use index_cached_tree as tree;
+use index_extensions::head::signature_of;
 use index_extensions::{MIN_SIZE, Signature, end_of_index_entry, sparse};
 use index_folder::folder::Source;
 use index_folder::pieces::{fill, remove_front};
@@ -81,14 +82,6 @@ fn is_unknown(signature: Signature) -> bool
     ensures { result ≡ is_unknown signature }
 {
     is_understood(signature, &[]) && !is_known(signature)
-}
-
-/// Four bytes as a signature.
-fn signature_of(bytes: &[u8]) -> Signature
-    requires { length bytes.now ≡ 4 }
-    ensures { result ≡ bytes.now }
-{
-    [bytes[0], bytes[1], bytes[2], bytes[3]]
 }
 
 /// The extension whose head begins bytes, if they are as many as one has.

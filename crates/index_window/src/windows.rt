@@ -12,7 +12,6 @@ ghost use Rattle.index_window.specs.Windowed.{IfGiven};
 use crate::ReadOptions;
 use crate::extensions::{Held, Place, joined, pass_extensions, read_rest};
 use crate::plan::{KEPT_LEN, Plan, WINDOW_LEN, hash_piece};
-use index_entries::Version;
 use index_entries::list::EntryList;
 use index_entries::sizes::HEADER_LEN;
 use index_entry_reading::entries::{FirstEntries, Read as ReadEntries, entries_in};

@@ -1,6 +1,6 @@
 //! The commands of the program with their arguments, as `clap` takes them.
 
-ghost use Rattle.std.specs.Prelude.{◌≡◌, IfOk, false, map, codes, Some, None, [], option_map, fold};
+ghost use Rattle.std.specs.Prelude.{◌≡◌, IfOk, false, map, fold};
 ghost use Rattle.clap.specs.Simple.{app_of};
 ghost use Rattle.clap.specs.Walk.{rule_of};
 ghost use Rattle.index_words.specs.Table.{Extends, MakesApp, command_app, flag, has_lines, help_app, is_checking};
@@ -31,11 +31,11 @@ const STATUS: &str =
 const KIND_HELP: &str = "How ids are made: `sha1` or `sha256`";
 
 /// What the help says of `--auto`, where FILE has to be given.
-const AUTO_KIND: &str = "KIND may be left out: it is then as the file's own digest tells";
+const AUTO_KIND: &str = "KIND may be left out: the repository or the file's own digest tells it";
 
 /// What the help says of `--auto`, where FILE may be left out too.
 const AUTO_BOTH: &str =
-    "KIND may be left out (the file's own digest tells it), and FILE (that of the work tree)";
+    "KIND may be left out (the repository or the file's own digest tells it), and FILE (that of the work tree)";
 
 /// What the help of a command that checks says that it leaves out.
 const UNCHECKED: &str =

@@ -1,10 +1,10 @@
 //! From the matches of a command to its values.
 
-ghost use Rattle.std.specs.Prelude.{◌≡◌, option_map, [], ◌∷◌, codes, MatchResult};
+ghost use Rattle.std.specs.Prelude.{◌≡◌};
 ghost use Rattle.clap.specs.Matches.{found_of};
 ghost use Rattle.clap.specs.Walk.{first_of, rows_of};
 ghost use Rattle.clap.specs.declared.error.kind.ErrorKind.{ErrorKind};
-ghost use Rattle.index_words.specs.Answers.{Answers, IsMeant};
+ghost use Rattle.index_words.specs.Answers.{IsMeant};
 ghost use Rattle.index_words.specs.Commands.{is_set, kind_named, lines_of, place_named, place_of, reading_named};
 ghost use Rattle.index_words.specs.Commands.{text_of, writing_named};
 ghost use Rattle.index_words.specs.Meaning.{change_meant, meant, on_three, on_two, read_meant, write_meant};

@@ -10,17 +10,17 @@ use Rattle.index_extensions.specs.Encoding.{item_bytes, marker_item}
 use Rattle.index_extensions.specs.Walk.{Item}
 use Rattle.index_extensions.proofs.WrittenItems.{IsWhole}
 use Rattle.index_extension_list.specs.Chosen.{Extensions as Chosen, items}
-use Rattle.index_extension_list.specs.Listing.{AreLens}
 use Rattle.index_extension_list.specs.Marked.{marker_if}
-use Rattle.index_extension_list.specs.declared.lens.Lens.{Lens}
 use Rattle.index_extension_list.proofs.Wholes.{some_whole}
 use Rattle.index_entries.specs.EntryImage.{header_bytes, written}
-use Rattle.index_entries.specs.declared.Version.{Version}
+use Rattle.index_entries.specs.declared.write.Precision.{Precision}
+use Rattle.index_entries.specs.declared.write.Precision.TheVariants.{Exact}
+use Rattle.index_entries.proofs.Counts.{counted_exact, within_counted}
 use Rattle.index_format.specs.declared.write.Options.{Options}
 use Rattle.index_format.specs.Image.{asks_for, body, chosen, entries_bytes, entries_end, has_marker, image_version}
 use Rattle.index_format.specs.Image.{is_kept, items_of, marker_of, unmarked}
 use Rattle.index_format.specs.Contents.{Contents}
-use Rattle.index_writing.specs.Layout.{IsLayout, wants_marker}
+use Rattle.index_writing.specs.Layout.{counted_unmarked, wants_marker}
 
 abbrev header_and_entries : Contents → Options → List ℕ
 header_and_entries v options =
@@ -64,13 +64,27 @@ length_unmarked v options = omega (
   length_front v options,
 )
 
-pub large_entries : (v : Contents) (options : Options) → 2 ^ 32 ≤ entries_end v options
-    → 2 ^ 32 ≤ length (unmarked v options)
-large_entries v options large = omega (arith, length_unmarked v options, large)
+-- they are no more than are counted
+pub unmarked_within : (precision : Precision) (v : Contents) (options : Options)
+    → length (unmarked v options) ≤ counted_unmarked precision v options
+unmarked_within precision v options = omega (
+  arith,
+  length_unmarked v options,
+  within_counted precision (image_version v options) [] (written v.records),
+)
 
-pub large_items : (v : Contents) (options : Options) → 2 ^ 32 ≤ length (flat_map item_bytes (items_of v options))
-    → 2 ^ 32 ≤ length (unmarked v options)
-large_items v options large = omega (arith, length_unmarked v options, large)
+-- and as many, where those of entries are counted exactly
+pub unmarked_exact : (v : Contents) (options : Options)
+    → length (unmarked v options) ≡ counted_unmarked Exact v options
+unmarked_exact v options = omega (
+  arith,
+  length_unmarked v options,
+  counted_exact (image_version v options) [] (written v.records),
+)
+
+pub small_end : (v : Contents) (options : Options) → length (unmarked v options) < 2 ^ 32
+    → entries_end v options < 2 ^ 32
+small_end v options small = omega (arith, length_unmarked v options, small)
 
 -- ---- the end marker
 
@@ -125,17 +139,3 @@ marker_told v options n k w h small =
     told false true true had more k w = refl
     told false true false had more k w = absurd cc
     told false false asked had more k w = absurd cc
-
--- the entries' end and the extensions' bytes are all
-pub layout_is : (version : Version) (count end total : ℕ) (lens : Lens) (v : Contents) (options : Options)
-    → version ≡ image_version v options → count ≡ length (written v.records) → end ≡ entries_end v options
-    → AreLens v.kind (chosen v options) lens
-    → total ≡ end + length (flat_map item_bytes (items_of v options)) → total < 2 ^ 32
-    → IsLayout version count end lens v options
-layout_is version count end total lens v options a b e l h lt = record {
-  is_version = a;
-  is_count = b;
-  is_end = e;
-  are_lens = l;
-  small = omega (arith, length_unmarked v options, e, h);
-}

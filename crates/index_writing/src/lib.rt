@@ -6,16 +6,16 @@ mod layout;
 mod marker;
 pub mod storable;
 
-ghost use Rattle.std.specs.Prelude.{◌≡◌, ◌<◌, ◌↔◌, IfOk, IsTrue, OnOk};
+ghost use Rattle.std.specs.Prelude.{◌≡◌, ◌↔◌, IfOk, IsTrue, OnOk};
 ghost use Rattle.index_parts.specs.Taking.{Hashes};
 ghost use Rattle.index_parts.specs.Puts.{Puts};
+ghost use Rattle.index_extension_list.specs.Chosen.{extensions_of};
 ghost use Rattle.index_format.specs.Image.{image_version, body};
 ghost use Rattle.index_format.specs.Contents.{parts_contents};
 ghost use Rattle.index_format.specs.Storable.{CanEncode, IsWritable};
 ghost use Rattle.index_format.specs.Writing.{RefusedWith, Writes};
 ghost use Rattle.index_writing.specs.Layout.{IsLayout};
 
-use chosen::chosen_of;
 use index_entries::paths::paths_without_nul;
 use index_entries::{Version, write};
 use index_extension_list::items::put_items;
@@ -28,21 +28,28 @@ use marker::has_marker;
 use std::io;
 
 /// Writes all but the trailer.
-fn put_body<W: Out>(parts: &Parts, layout: Layout, out: &mut W, options: Options) -> io::Result<()>
-    requires layout { IsLayout layout.entries.version layout.entries.count layout.entries.end
-        layout.lens (parts_contents parts.now) options }
+fn put_body<W: Out>(
+    parts: &Parts,
+    layout: Layout<'_>,
+    out: &mut W,
+    options: Options,
+) -> io::Result<()>
+    requires layout { IsLayout layout.entries.version layout.entries.count
+        (extensions_of layout.list) layout.lens (parts_contents parts.now) options }
     ensures { Puts W.Out out.old out.new result
         (body (parts_contents parts.now) options) }
 {
-    let entries = layout.entries;
-    let lens = layout.lens;
-    let list = chosen_of(parts, options, entries.count);
+    let Layout {
+        entries,
+        list,
+        lens,
+    } = layout;
     let version = entries.version;
     out.put(&write::header(version, entries.count))?;
-    write::put_entries(version, &parts.entries, &parts.path_backing, out)?;
+    let end = write::put_entries(version, &parts.entries, &parts.path_backing, out)?;
     put_items(list, parts.object_hash, lens, out)?;
     if has_marker(parts, list, lens, options) {
-        return put_marker(lens, list.is_sparse, parts.object_hash, entries.end, out);
+        return put_marker(lens, list.is_sparse, parts.object_hash, end, out);
     }
     Ok(())
 }

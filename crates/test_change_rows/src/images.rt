@@ -1,7 +1,5 @@
 //! The rows about writing.
 
-ghost use Rattle.std.specs.Prelude.{◌≡◌, IfOk};
-
 use crate::objects::check_of;
 use crate::trees::tree_of;
 use gix_index::decode::entry::Pathless;

@@ -1,6 +1,6 @@
 //! A store of the objects that a row spells, and a check of names.
 
-ghost use Rattle.std.specs.Prelude.{◌≡◌, ◌==◌, ◌&&◌, not, Bool, Some, None, if◌then◌else◌};
+ghost use Rattle.std.specs.Prelude.{◌≡◌, ◌==◌, ◌&&◌, not, Some, None, if◌then◌else◌};
 ghost use Rattle.std.specs.Prelude.{slice_get, slice_index_or};
 ghost use Rattle.gix_index.specs.Id.{id_bytes};
 ghost use Rattle.test_change_rows.specs.Store.{found_at};

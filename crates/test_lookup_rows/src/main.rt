@@ -10,8 +10,6 @@ mod place;
 mod search;
 mod unordered;
 
-ghost use Rattle.std.specs.Prelude.{◌≡◌};
-
 use gix_index::State;
 use std::process::ExitCode;
 use test_row_kit::{Answer, Fault, Lines, Words, refusal, rows};

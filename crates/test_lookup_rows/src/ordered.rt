@@ -1,6 +1,5 @@
 //! The lookups over entries whose paths never fall.
 
-ghost use Rattle.std.specs.Prelude.{◌≡◌};
 ghost use Rattle.gix_index.specs.Order.{IsOrderedByPath};
 ghost use Rattle.gix_index.specs.State.{records};
 

@@ -1,7 +1,5 @@
 //! One search for a path, how many paths it compares, and the order that it goes by.
 
-ghost use Rattle.std.specs.Prelude.{◌≡◌};
-
 use crate::place::most_compared;
 use gix_index::State;
 use gix_index::entry::Stage;

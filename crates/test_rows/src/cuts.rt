@@ -1,8 +1,6 @@
 //! What becomes of an index, or of one entry, whose writer fails once, behind each number of bytes that it takes.
 
-ghost use Rattle.std.specs.Prelude.{◌≡◌, ◌<◌, false, length};
-ghost use Rattle.gix_index.specs.File.{state_of};
-ghost use Rattle.gix_index.specs.State.{entries_of};
+ghost use Rattle.std.specs.Prelude.{◌≡◌, false};
 
 use crate::ranges::ranges;
 use gix_index::hash::io::{Out, Plain};

@@ -1,7 +1,5 @@
 //! The rows about a whole index: read and written.
 
-ghost use Rattle.std.specs.Prelude.{◌≡◌};
-
 use crate::cuts::Cuts;
 use crate::reading::{Reading, read};
 use crate::{cuts, prefixes, show};

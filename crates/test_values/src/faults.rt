@@ -1,6 +1,6 @@
 //! Locking, writing and reading over a folder in memory, of which each step fails in turn.
 
-use gix_index::entry::{FileTime, Flags, Mode, Stage, Stat};
+use gix_index::entry::{FileTime, Flags, Mode, Stat};
 use gix_index::file::{init, lock, write};
 use gix_index::hash::{Kind, ObjectId};
 use gix_index::write::Options;

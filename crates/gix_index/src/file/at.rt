@@ -1,14 +1,13 @@
 //! Reading an index from the disk, with the shared index that it links to.
 
-ghost use Rattle.std.specs.Prelude.{◌≡◌, false, true, IfErr, IfOk, IsOk, None, Ok};
+ghost use Rattle.std.specs.Prelude.{◌≡◌, false, true, IfErr, IfOk, IsOk, Ok};
 ghost use Rattle.std.specs.Path.{path_buf_bytes, path_bytes};
 ghost use Rattle.index_format.specs.declared.decode.Options.{Options};
 ghost use Rattle.index_parts.specs.declared.hash.ObjectId.{ObjectId};
 ghost use Rattle.gix_index.specs.Disk.{IsTimeFor, known_of, shared_path};
 ghost use Rattle.gix_index.specs.File.{path_of, state_of};
-ghost use Rattle.gix_index.specs.File.{IsFileOf, IsWholeFile};
-ghost use Rattle.gix_index.specs.ReadFile.{FollowsTo, IsFileRead, IsFound, IsReadOf, IsSharedRead, Loads, Opens, Reads};
-ghost use Rattle.gix_index.specs.ReadFile.{SaysOfFinding, SaysOfFollowing, SaysOfShared};
+ghost use Rattle.gix_index.specs.File.{IsWholeFile};
+ghost use Rattle.gix_index.specs.ReadFile.{FollowsTo, IsReadOf, IsSharedRead};
 ghost use Rattle.index_state.specs.State.{IsWellFormed};
 ghost use Rattle.gix_index.specs.OnDisk.{FindsIn, IsSharedPath, LoadsIn, OpensIn, ReadsIn, SaysOfFindingIn};
 ghost use Rattle.gix_index.specs.OnDisk.{SaysOfFollowingIn, SaysOfSharedIn};

@@ -2,11 +2,9 @@
 
 ghost use Rattle.std.specs.Prelude.{◌≡◌, IfOk, IfErr, IfSome, OnOk, OnErr};
 ghost use Rattle.std.specs.Path.{path_buf_bytes};
-ghost use Rattle.index_format.specs.Contents.{ExtensionIdsAreOf};
-ghost use Rattle.index_state.specs.State.{contents};
 ghost use Rattle.gix_index.specs.Checked.{IsFileAnswer, SaysFile};
 ghost use Rattle.index_window.specs.Intact.{digest_fault, digest_id, IsIntact, IsBroken};
-ghost use Rattle.gix_index.specs.File.{IsFileOf, state_of};
+ghost use Rattle.gix_index.specs.File.{IsFileOf};
 ghost use Rattle.gix_index.specs.ReadFile.{IsAnswerBy};
 ghost use Rattle.gix_index.specs.OnDisk.{FileIdsAreOf, NeedsIntact};
 

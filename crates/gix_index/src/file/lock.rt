@@ -1,17 +1,8 @@
 //! An index that is locked before it is read, so that no other writer comes between its reading and its writing.
 
 ghost use Rattle.std.specs.Path.{path_buf_bytes};
-ghost use Rattle.std.specs.Prelude.{◌≡◌, [], IfErr, IfOk, None, OnErr, OnOk, Some, true};
-ghost use Rattle.index_folder.specs.Locks.{IsReleased, LeadsTo, Restores, asked_of, lock_of, target_of};
-ghost use Rattle.index_folder.specs.World.{Makes};
-ghost use Rattle.index_format.specs.Storable.{IsWritable};
+ghost use Rattle.std.specs.Prelude.{◌≡◌, IfErr, IfOk, None, Some, true};
 ghost use Rattle.index_state.specs.State.{contents};
-ghost use Rattle.gix_index.specs.FileFaults.{SaysOfLocking};
-ghost use Rattle.gix_index.specs.InPlace.{IsPutSince};
-ghost use Rattle.gix_index.specs.File.{IsWholeFile};
-ghost use Rattle.gix_index.specs.ReadFile.{IsReadUnder};
-ghost use Rattle.gix_index.specs.WrittenFile.{SaysOfCommittingFile};
-ghost use Rattle.gix_index.specs.WrittenFile.{IsWrittenTo};
 ghost use Rattle.gix_index.specs.OnDisk.{IsLockedWhole, IsReadBehind, LocksFile, SaysOfLockIn};
 ghost use Rattle.gix_index.specs.WrittenFile.{ReleasesLock, SavesFile, SavesLocked};
 

@@ -1,10 +1,7 @@
 //! An index in the bytes of its file, for a caller that puts each entry somewhere itself.
 
-ghost use Rattle.std.specs.Prelude.{◌≡◌, Err, IfErr, IfOk};
-ghost use Rattle.index_format.specs.Contents.{ExtensionIdsAreOf};
-ghost use Rattle.index_state.specs.State.{PathsInStorage, contents};
-ghost use Rattle.index_window.specs.Intact.{IsIntact};
-ghost use Rattle.gix_index.specs.Checked.{IsFileAnswer, SaysFile};
+ghost use Rattle.std.specs.Prelude.{IfErr, IfOk};
+ghost use Rattle.index_state.specs.State.{PathsInStorage};
 ghost use Rattle.gix_index.specs.Outlined.{IsOutlined};
 ghost use Rattle.gix_index.specs.OnDisk.{IsFileFault, NeedsIntact};
 ghost use Rattle.index_outline.specs.Outlines.{OutlineIdsAreOf};

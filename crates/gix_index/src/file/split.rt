@@ -6,10 +6,8 @@ ghost use Rattle.std.specs.Prelude.{◌≡◌, IfErr, IfOk, None};
 ghost use Rattle.index_split.specs.Link.{link_of};
 ghost use Rattle.index_state.specs.Edits.{without_link};
 ghost use Rattle.index_state.specs.State.{contents, entries_of, storage_of};
-ghost use Rattle.gix_index.specs.Disk.{disk_in_hand};
 ghost use Rattle.gix_index.specs.File.{IsWholeFile};
 ghost use Rattle.gix_index.specs.Linked.{Follows};
-ghost use Rattle.gix_index.specs.ReadFile.{IsFileOnDisk, SaysOfBothBy};
 ghost use Rattle.gix_index.specs.OnDisk.{IsFileInHand, SaysOfBothInHand};
 
 use super::File;

@@ -8,10 +8,7 @@ ghost use Rattle.index_parts.specs.declared.hash.ObjectId.{ObjectId};
 ghost use Rattle.index_window.specs.Behind.{FollowEntries};
 ghost use Rattle.index_window.specs.Intact.{digest_id};
 ghost use Rattle.gix_index.specs.Disk.{known_of};
-ghost use Rattle.gix_index.specs.FileFaults.{SaysOfFile};
-ghost use Rattle.gix_index.specs.File.{IsFileOf};
-ghost use Rattle.gix_index.specs.Linked.{IsReadAlone};
-ghost use Rattle.gix_index.specs.ReadFile.{IsFileReadKeeping, IsNoIndex, IsReadKeeping, SaysOfAny, SaysOfFileBy};
+ghost use Rattle.gix_index.specs.ReadFile.{IsFileReadKeeping, IsNoIndex, IsReadKeeping, SaysOfAny};
 ghost use Rattle.gix_index.specs.ReadFile.{SaysOfHolder};
 ghost use Rattle.gix_index.specs.OnDisk.{IsAloneOf, ReadsAloneAt, SaysOfSource};
 

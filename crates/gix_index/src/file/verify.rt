@@ -1,9 +1,9 @@
 //! Whether a file still has the bytes that its checksum is of.
 
-ghost use Rattle.std.specs.Prelude.{◌≡◌, ◌<◌, Err, None, Some, IfErr, IfSome, IsOk, OnOk};
+ghost use Rattle.std.specs.Prelude.{◌≡◌, ◌<◌, Err, None, Some, IfErr, IsOk, OnOk};
 ghost use Rattle.index_parts.specs.declared.hash.ObjectId.{ObjectId};
-ghost use Rattle.gix_index.specs.File.{checksum_of, path_of};
-ghost use Rattle.gix_index.specs.VerifiedFile.{Compares, FitsFile, SaysOfVerifying};
+ghost use Rattle.gix_index.specs.File.{checksum_of};
+ghost use Rattle.gix_index.specs.VerifiedFile.{Compares, SaysOfVerifying};
 ghost use Rattle.gix_index.specs.OnDisk.{FitsAtPath};
 ghost use Rattle.gix_index.specs.OnSystem.{FitsOnSystem, SaysOfVerifyingOnSystem};
 

@@ -1,17 +1,13 @@
 //! Writing a `File` to its path, by way of a lock file.
 
-ghost use Rattle.std.specs.Path.{path_buf_bytes};
-ghost use Rattle.std.specs.Prelude.{◌≡◌, ◌++◌, [], Some, true, codes, IfErr, IfOk, OnErr, OnOk};
-ghost use Rattle.std.specs.Io.KnownBytes.{Appends};
-ghost use Rattle.index_folder.specs.Locks.{IsReleased, asked_of, lock_of};
+ghost use Rattle.std.specs.Prelude.{◌≡◌, Some, IfErr, IfOk, OnErr, OnOk};
 ghost use Rattle.index_file_faults.specs.WriteFaults.{SaysOfPut};
 ghost use Rattle.index_format.specs.Storable.{IsWritable};
 ghost use Rattle.index_state.specs.State.{contents};
-ghost use Rattle.gix_index.specs.File.{path_of, state_of};
-ghost use Rattle.gix_index.specs.InPlace.{IsPutSince, LeavesLock};
+ghost use Rattle.gix_index.specs.File.{state_of};
 ghost use Rattle.gix_index.specs.OnSystem.{SaysOfWritingOnSystem};
-ghost use Rattle.gix_index.specs.WrittenFile.{IsWritten, SaysOfCommittingFile, SaysOfWritingFile, Stores};
-ghost use Rattle.gix_index.specs.WrittenFile.{id_of, image_of, version_of};
+ghost use Rattle.gix_index.specs.WrittenFile.{IsWritten};
+ghost use Rattle.gix_index.specs.WrittenFile.{id_of, version_of};
 ghost use Rattle.gix_index.specs.WrittenFile.{HoldsImage, LeavesLockOf, Saves, SaysOfWritingIn, StoresIn};
 
 use super::File;
@@ -28,7 +24,7 @@ use index_parts::hash::ObjectId;
 use index_parts::hash::io::{Plain, Retrying};
 use std::alloc::Global;
 use std::io;
-use std::io::{BufWriter, ErrorKind};
+use std::io::BufWriter;
 use std::path::PathBuf;
 use std::rt::Files;
 

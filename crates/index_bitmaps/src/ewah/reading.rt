@@ -1,6 +1,6 @@
 //! Reading a bitmap (git's bitmap-format document, "Serialization format for an EWAH bitmap").
 
-ghost use Rattle.std.specs.Prelude.{◌≡◌, ◌*◌, ℕ, List, length, IfOk, IfErr, MatchResult};
+ghost use Rattle.std.specs.Prelude.{◌≡◌, ◌*◌, ℕ, List, length, IfOk, IfErr};
 ghost use Rattle.index_bitmaps.specs.Bitmap.{bitmap, AreWords, IsBitmap, Lacks, SaysBitmapFault};
 ghost use Rattle.index_bitmaps.specs.declared.ewah.reading.Error.TheVariants.{Memory};
 

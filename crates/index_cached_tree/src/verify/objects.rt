@@ -1,27 +1,25 @@
 //! Whether the trees that a cached tree names are there, and list its nodes.
 
-ghost use Rattle.std.specs.Prelude.{◌≡◌, ◌⊎◌, ℕ, List, length, map, Some, None, IfOk, IfErr};
-ghost use Rattle.std.specs.Cmp.Lexicographic.{slice_cmp};
-ghost use Rattle.std.specs.Ordering.{nat_cmp};
+ghost use Rattle.std.specs.Prelude.{◌≡◌, ◌⊎◌, List, length, map, Some, None, IfOk, IfErr};
 ghost use Rattle.index_parts.specs.Id.{id_kind};
 ghost use Rattle.index_objects.specs.Object.{tree_bytes};
 ghost use Rattle.index_objects.specs.TreeObject.{TreeEntry, Lists, tree_entry_of};
 ghost use Rattle.index_cached_tree.specs.Agreement.{Trees, AreTrees, directories, has_child};
 ghost use Rattle.index_cached_tree.specs.Sound.{RiseFrom};
-ghost use Rattle.index_cached_tree.specs.Tree.{name_of, node_of, nodes_from};
+ghost use Rattle.index_cached_tree.specs.Tree.{node_of, nodes_from};
 ghost use Rattle.index_cached_tree.specs.declared.verify.Error.TheVariants.{Memory};
 ghost use Rattle.index_cached_tree.specs.TreeFaults.{no_tree, child_fault, missing_fault, listed_fault, SaysTree};
 ghost use Rattle.index_cached_tree.specs.TreeFaults.{SaysOrWants};
 
 use super::Error;
 use crate::Tree;
+use crate::order::compare_to;
 use bstr::BString;
 use index_objects::object;
 use index_objects::object::tree::{Entries, EntryRef};
 use index_objects::object::{Find, find};
 use index_parts::hash::{Kind, ObjectId};
 use std::alloc::Global;
-use std::cmp::Ordering;
 
 /// Puts the tree with this id into the buffer. Fails where there is none.
 fn find_tree<F: Find>(objects: &F, id: ObjectId, buf: &mut Vec<u8>) -> Result<(), Error>
@@ -39,13 +37,6 @@ fn find_tree<F: Find>(objects: &F, id: ObjectId, buf: &mut Vec<u8>) -> Result<()
         Err(find::Error::Fault(_number)) => Err(Error::TreeNodeNotFound { id }),
         Err(find::Error::Memory) => Err(Error::Memory),
     }
-}
-
-/// How a node's name stands to this one, by their bytes.
-fn compare_to(tree: &Tree, name: &[u8]) -> Ordering
-    ensures { result ≡ slice_cmp nat_cmp (name_of (node_of tree.now)) name.now }
-{
-    tree.name.as_slice().cmp(&name)
 }
 
 /// Whether one of the nodes has this name, where each name is above the one before.

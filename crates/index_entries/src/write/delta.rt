@@ -1,13 +1,14 @@
 //! One entry as bytes of version 4: its path as a difference to the path before it (gitformat-index, "Index entry").
 
-ghost use Rattle.std.specs.Prelude.{◌≡◌, ◌-◌, ◌+◌, ◌<◌, ◌^◌, ◌++◌, ◌∷◌, [], length, false, is_err};
+ghost use Rattle.std.specs.Prelude.{◌≡◌, ◌-◌, ◌+◌, ◌<◌, ◌^◌, length};
 ghost use Rattle.index_parts.specs.Puts.{Puts};
-ghost use Rattle.index_entries.specs.EntryImage.{delta_bytes};
-ghost use Rattle.index_entries.specs.Record.{IsPlaced, record_in};
+ghost use Rattle.index_entries.specs.EntryImage.{delta_bytes, unpadded};
+ghost use Rattle.index_entries.specs.Record.{record_in};
 
 use crate::paths::shared_len;
 use crate::{Entry, PathBacking};
 use index_parts::encode;
+use index_parts::encode::MAX_OFFSET_LEN;
 use index_parts::hash::io::Out;
 use std::io;
 
@@ -21,6 +22,14 @@ impl Entry {
         let (bytes, start) = encode::offset((previous.len() - shared) as u64);
         let (_, number) = bytes.split_at(start);
         self.unpadded_len(storage) - shared as u64 + number.len() as u64 + 1
+    }
+
+    /// How many bytes the entry has in version 4 at most, behind any path.
+    pub(super) fn most_delta_len(&self, storage: &[u8]) -> u64
+        ensures len { result ≡ length (unpadded (record_in storage.now self.now)) + 11 }
+        ensures small { result < 2 ^ 63 + 2 ^ 10 }
+    {
+        self.unpadded_len(storage) + MAX_OFFSET_LEN as u64 + 1
     }
 
     /// Writes the entry as version 4 has it behind this path.

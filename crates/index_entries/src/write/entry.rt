@@ -1,14 +1,16 @@
 //! One entry as bytes.
 
-ghost use Rattle.std.specs.Prelude.{◌≡◌, ◌+◌, ◌<◌, ◌^◌, ◌++◌, ◌∷◌, [], ℕ, List, length, false, is_err, if◌then◌else◌};
+ghost use Rattle.std.specs.Prelude.{◌≡◌, ◌+◌, ◌<◌, ◌^◌, ◌++◌, ◌∷◌, [], ℕ, List, length, if◌then◌else◌};
 ghost use Rattle.index_metadata.specs.Flags.{is_extended};
 ghost use Rattle.index_parts.specs.Puts.{Puts};
+ghost use Rattle.index_entries.specs.Counted.{counted_len};
 ghost use Rattle.index_entries.specs.Entry.{head_bytes};
-ghost use Rattle.index_entries.specs.EntryImage.{be16, numbers_of, first_word, head_of, second_word, unpadded, padding};
+ghost use Rattle.index_entries.specs.EntryImage.{numbers_of, first_word, head_of, unpadded, padding};
 ghost use Rattle.index_entries.specs.EntryImage.{entry_bytes, entry_in, is_removed};
-ghost use Rattle.index_entries.specs.Record.{IsPlaced, record_in};
+ghost use Rattle.index_entries.specs.Record.{record_in};
 
 use crate::sizes::{ENTRY_ALIGN, FLAGS_LEN, NUMBERS_LEN};
+use crate::write::Precision;
 use crate::{Entry, PathBacking, Version};
 use bitflags::Flags as _;
 use index_metadata::entry::{Flags, at_rest};
@@ -99,15 +101,24 @@ impl Entry {
         len - len % ALIGN + ALIGN
     }
 
-    /// How many bytes the entry has in a file of this version, behind this path.
-    pub(super) fn written_len(&self, version: Version, previous: &[u8], storage: &[u8]) -> u64
-        ensures len { result ≡ length
-            (entry_in version previous.now (record_in storage.now self.now)) }
+    /// How many bytes the entry has in a file of this version, behind this path: exactly, or at most.
+    pub(super) fn counted_len(
+        &self,
+        precision: Precision,
+        version: Version,
+        previous: &[u8],
+        storage: &[u8],
+    ) -> u64
+        ensures len { result ≡ counted_len precision version previous.now
+            (record_in storage.now self.now) }
         ensures small { result < 2 ^ 63 + 2 ^ 10 }
     {
         match version {
             Version::V2 | Version::V3 => self.padded_len(storage),
-            Version::V4 => self.delta_len(previous, storage),
+            Version::V4 => match precision {
+                Precision::Bound => self.most_delta_len(storage),
+                Precision::Exact => self.delta_len(previous, storage),
+            },
         }
     }
 

@@ -1,4 +1,4 @@
-use Rattle.std.proofs.Common.{◌≡◌, ◌+◌, false, take, drop, map, Option, Some, None, All, sym, ap, subst, ◌∙◌, List, refl}
+use Rattle.std.proofs.Common.{◌≡◌, ◌+◌, false, take, drop, map, None, All, sym, ap, subst, ◌∙◌, List, refl}
 use Rattle.std.specs.Prelude.{position}
 use Rattle.std.proofs.lemmas.List.Quantifiers.{position-Some}
 use Rattle.index_cached_tree.specs.Sound.{CountsAtMost}

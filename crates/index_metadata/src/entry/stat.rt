@@ -47,7 +47,7 @@ pub struct FileTime {
 }
 
 impl FileTime {
-    ghost use Rattle.std.specs.Prelude.{◌≡◌, ◌≤◌, IsNone, IsSome, IfSome, ◌↔◌};
+    ghost use Rattle.std.specs.Prelude.{◌≡◌, IsSome, IfSome, ◌↔◌};
     ghost use Rattle.index_metadata.specs.Stat.{seconds_of, nanoseconds_of};
 
     /// The begin of 1970.

@@ -1,6 +1,6 @@
 //! What an entry takes of a file's metadata: its stat numbers, and how its mode has to change.
 
-ghost use Rattle.std.specs.Prelude.{◌≡◌, ◌&&◌, ◌^◌, ◌%◌};
+ghost use Rattle.std.specs.Prelude.{◌≡◌, ◌&&◌};
 ghost use Rattle.std.specs.Option.{option_map};
 ghost use Rattle.index_metadata.specs.ModeChange.{change_of, change_due, is_file_kind, is_directory_kind};
 ghost use Rattle.index_metadata.specs.ModeChange.{is_symlink_kind};

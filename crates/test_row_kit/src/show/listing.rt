@@ -1,7 +1,5 @@
 //! Entries, and the ids and stat numbers in them.
 
-ghost use Rattle.std.specs.Prelude.{◌≡◌};
-
 use super::Text;
 use crate::Lines;
 use gix_index::entry::stat::Time;

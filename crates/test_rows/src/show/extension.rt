@@ -8,7 +8,7 @@ use gix_index::extension::resolve_undo::{ResolvePath, Stage};
 use gix_index::extension::{FsMonitor, Tree};
 use std::fmt::{self, Display};
 use test_row_kit::Lines;
-use test_row_kit::show::{Listed, OrNone, ShortId, Text, yes};
+use test_row_kit::show::{Listed, ShortId, Text, yes};
 
 /// How many nodes, directories or positions are printed.
 pub const MOST: usize = 100;

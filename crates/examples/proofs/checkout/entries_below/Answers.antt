@@ -1,5 +1,5 @@
 -- The places that the library gives, of which the entries are lent, are all those below the directory.
-use Rattle.std.proofs.Common.{rules, ◌≡◌, ◌++◌, ◌∷◌, ℕ, List, [], Option, Some, None, refl, ap}
+use Rattle.std.proofs.Common.{rules, ◌≡◌, ◌++◌, ◌∷◌, List, [], Option, Some, None, refl, ap}
 use Rattle.std.proofs.Common.{subst, ◌∙◌}
 use Rattle.std.specs.Option.{option_copied, unwrap_or}
 use denote.Ref.{Bor}

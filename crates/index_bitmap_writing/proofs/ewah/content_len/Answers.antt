@@ -1,5 +1,5 @@
 use Rattle.std.proofs.Common.{◌+◌, ◌*◌, length, arith, sym, ap, ◌∙◌}
-use Rattle.index_cached_tree.specs.TreeWriting.{within_32}
+use Rattle.index_parts.specs.Numbers.{within_32}
 use Rattle.index_bitmap_writing.specs.BitmapImage.{bitmap_bytes, lent_bitmap}
 use Rattle.index_bitmap_writing.proofs.Lengths.{within_none, within_some}
 use Rattle.index_bitmap_writing.proofs.WrittenBitmaps.{bitmap_len}

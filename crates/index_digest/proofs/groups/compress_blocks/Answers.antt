@@ -1,20 +1,16 @@
-use Rattle.std.proofs.Common.{◌≡◌, ℕ, List, arith, ap, sym, ◌∙◌}
-use Rattle.sha1.specs.Sha1.{compress}
-use Rattle.index_digest.specs.Blocks.{block}
-use Rattle.index_digest.proofs.Compressing.{compressed_none, compressed_next}
-use Rattle.index_digest.proofs.Lanes.{column}
+use Rattle.std.proofs.Common.{◌≡◌, arith, sym}
+use Rattle.index_digest.proofs.Compressing.{compressed_more, compressed_none}
 use Rattle.index_digest.proofs.groups.compress_blocks.Goals as goal
 
 pub loop-j-init : goal.loop-j-init
-loop-j-init c = λ group keyed. sym (compressed_none c.args.hash.now group)
+loop-j-init g c = λ group keyed. sym (compressed_none g.V.HashValue.compress (g.V.HashValue.words c.args.hash.now) group)
 
 pub loop-j-preserved : goal.loop-j-preserved
-loop-j-preserved c = λ group keyed.
-    c.compress.ensures (block group c.loop-j.j) (column c.args.keyed.now group c.loop-j.j (omega arith) keyed)
-    ∙ ap (λ (h : List ℕ). compress h (block group c.loop-j.j)) (c.loop-j.invariant group keyed)
-    ∙ sym (compressed_next c.args.hash.now group c.loop-j.j)
+loop-j-preserved g c = λ group keyed.
+    compressed_more g.V.HashValue.compress (g.V.HashValue.words c.args.hash.now) (g.V.HashValue.words c.loop-j.hash) _ group c.loop-j.j
+    (c.loop-j.invariant group keyed) (c.compress.ensures group keyed)
 
 pub returns : goal.returns
-returns c = λ group keyed.
+returns g c = λ group keyed.
     let all : c.loop-j.j ≡ c.args.count = omega arith in
     rw all at (c.loop-j.invariant group keyed)

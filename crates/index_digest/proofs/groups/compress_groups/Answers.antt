@@ -1,26 +1,17 @@
-use Rattle.std.proofs.Common.{◌≡◌, ℕ, ◌*◌, ◌+◌, ◌-◌, ◌/◌, List, length, take, drop, arith, ap, sym, refl, ◌∙◌}
-use Rattle.index_digest.specs.Blocks.{compressed}
-use Rattle.index_digest.specs.Lanes.{AreKeyed}
-use Rattle.index_digest.proofs.Compressing.{compressed_none, compressed_part}
+use Rattle.std.proofs.Common.{◌≡◌, ◌*◌, ◌+◌, ◌-◌, ◌/◌, length, arith, sym}
+use Rattle.index_digest.proofs.Compressing.{compressed_group, compressed_none}
 use Rattle.index_digest.proofs.groups.compress_groups.Goals as goal
 
 pub loop-i-init : goal.loop-i-init
-loop-i-init c = sym (compressed_none c.args.hash.now c.args.groups.now)
+loop-i-init g c = sym (compressed_none g.V.HashValue.compress (g.V.HashValue.words c.args.hash.now) c.args.groups.now)
 
 pub loop-i-preserved : goal.loop-i-preserved
-loop-i-preserved c =
-    let hash : List ℕ = c.args.hash.now in
-    let groups : List ℕ = c.args.groups.now in
-    let a : ℕ = 4 * c.loop-i.i in
-    let part : List ℕ = take 256 (drop (a * 64) groups) in
-    let start : a * 64 ≡ 256 * c.loop-i.i = omega arith in
+loop-i-preserved g c =
     let len : 256 * c.loop-i.i + 256 - 256 * c.loop-i.i ≡ 256 = omega arith in
-    let next : a + 4 ≡ 4 * (c.loop-i.i + 1) = omega arith in
-    let keyed : AreKeyed c.spread.new.keyed part 80 = rw start (rw len at c.spread.ensures.1) in
-    let made : c.compress_blocks.new.hash ≡ compressed c.loop-i.value part 4 = c.compress_blocks.ensures part keyed in
-    made ∙ ap (λ (h : List ℕ). compressed h part 4) c.loop-i.invariant ∙ rw next at (compressed_part hash groups part a 4 256 refl (omega arith))
+    compressed_group g.V.HashValue.compress (g.V.HashValue.words c.args.hash.now) (g.V.HashValue.words c.loop-i.value) _ c.args.groups.now c.loop-i.i
+    c.loop-i.invariant (c.compress_blocks.ensures _ (rw len at c.spread.ensures))
 
 pub returns : goal.returns
-returns c =
+returns g c =
     let all : 4 * c.loop-i.i ≡ length c.args.groups.now / 64 = omega arith in
     rw all at c.loop-i.invariant

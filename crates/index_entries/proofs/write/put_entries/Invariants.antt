@@ -1,4 +1,4 @@
-use Rattle.std.proofs.Common.{◌≡◌, take, []}
+use Rattle.std.proofs.Common.{◌≡◌, ◌+◌, length, take, []}
 use Rattle.index_parts.specs.Gathered.{Gathers}
 use Rattle.index_entries.specs.EntryImage.{entries_in}
 use Rattle.index_entries.proofs.Written.{written_of, last_of}
@@ -9,5 +9,7 @@ abbrev pub invariant-loop-entry : goal.invariant-loop-entry
 invariant-loop-entry g l = record {
   so_far : Gathers g.W.Out l.fn.out l.out l.block.bytes
       (entries_in l.version [] (written_of l.storage (take l.entry-index l.entries)));
+  counted : l.gone + length l.block.bytes
+      ≡ 12 + length (entries_in l.version [] (written_of l.storage (take l.entry-index l.entries)));
   last : l.previous ≡ last_of [] (written_of l.storage (take l.entry-index l.entries));
 }

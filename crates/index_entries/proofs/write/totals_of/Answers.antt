@@ -2,25 +2,28 @@ use Rattle.std.proofs.Common.{◌≡◌, ◌+◌, ◌<◌, ◌∙◌, [], length
 use Rattle.std.specs.List.{list_any}
 use Rattle.std.proofs.lemmas.List.{take_all}
 use Rattle.index_metadata.specs.Flags.{is_extended}
-use Rattle.index_entries.specs.EntryImage.{chosen_version, entries_in, version_by}
+use Rattle.index_entries.specs.Counted.{counted_in}
+use Rattle.index_entries.specs.EntryImage.{chosen_version, version_by}
 use Rattle.index_entries.specs.Record.{records_in}
-use Rattle.index_entries.proofs.Written.{any_push, any_record, count_push, counted_entries, last_of, last_push}
-use Rattle.index_entries.proofs.Written.{length_push, too_large_at, written_of, written_skip}
+use Rattle.index_entries.proofs.Counts.{counted_choice, counted_push, too_large_at}
+use Rattle.index_entries.proofs.Written.{any_push, any_record, count_push, last_of, last_push, written_of}
+use Rattle.index_entries.proofs.Written.{written_skip}
 use Rattle.index_entries.proofs.write.totals_of.Goals as goal
-use Rattle.index_entries.proofs.write.totals_of.Goals.{then-not-is_removed+else-end-from, else-not-is_removed}
+use Rattle.index_entries.proofs.write.totals_of.Goals.{then-not-is_removed+else-most-from, else-not-is_removed}
 
-pub returns-then-end-from-clause-none : goal.returns-then-end-from-clause-none
-returns-then-end-from-clause-none c =
+pub returns-then-most-from-clause-none : goal.returns-then-most-from-clause-none
+returns-then-most-from-clause-none c =
+    let p = c.args.precision in
     let rs = written_of c.args.storage.now c.args.entries.now in
     let b = list_any (λ r. is_extended r.flags) (records_in c.args.storage.now c.args.entries.now) in
-    let large : c.from.result < 12 + length (entries_in c.version_by-counted.result [] rs) =
-    too_large_at c.version_by-counted.result c.args.storage.now c.args.entries.now c.loop-entry.entry-index _ _ _ _
-    _ c.written_len-end.ensures.len c.loop-entry.invariant.path c.loop-entry.invariant.so_far c.loop-entry-test.true
-    (search rules) c.if-end-from.true in
-    let same : entries_in (chosen_version c.args.choice (records_in c.args.storage.now c.args.entries.now)) [] rs
-    ≡ entries_in c.version_by-counted.result [] rs =
-    counted_entries c.args.choice b [] rs ∙ ap (λ v. entries_in v [] rs) (sym c.version_by-counted.ensures) in
-    omega (arith, large, ap length same)
+    let large : c.from.result < 12 + counted_in p c.version_by-counted.result [] rs =
+    too_large_at p c.version_by-counted.result c.args.storage.now c.args.entries.now c.loop-entry.entry-index _ _ _ _
+    _ c.counted_len-most.ensures.len c.loop-entry.invariant.path c.loop-entry.invariant.so_far c.loop-entry-test.true
+    (search rules) c.if-most-from.true in
+    let same : counted_in p (chosen_version c.args.choice (records_in c.args.storage.now c.args.entries.now)) [] rs
+    ≡ counted_in p c.version_by-counted.result [] rs =
+    counted_choice p c.args.choice b [] rs ∙ ap (λ v. counted_in p v [] rs) (sym c.version_by-counted.ensures) in
+    omega (arith, large, same)
 
 pub loop-entry-preserved : goal.loop-entry-preserved
 loop-entry-preserved c =
@@ -30,7 +33,7 @@ loop-entry-preserved c =
     let es = c.args.entries.now in
     let i = c.loop-entry.entry-index in
     elim c.if-not-is_removed.branch [
-      | then-not-is_removed+else-end-from w ↦
+      | then-not-is_removed+else-most-from w ↦
           let kept = sym c.is_removed.ensures ∙ w.if-not-is_removed.true in
           record {
             extended = any_push (λ e. is_extended e.flags.0) es i _ c.loop-entry-test.true h.extended
@@ -39,12 +42,12 @@ loop-entry-preserved c =
             few = omega (arith, w.count-is, h.few);
             so_far = omega (
               arith,
-              w.end-is,
+              w.most-is,
               h.so_far,
-              w.written_len-end.ensures.len,
-              length_push v storage es i _ c.loop-entry.last.now c.loop-entry-test.true kept h.path,
+              w.counted_len-most.ensures.len,
+              counted_push c.args.precision v storage es i _ c.loop-entry.last.now c.loop-entry-test.true kept h.path,
             );
-            small = omega (arith, w.end-is, w.if-end-from.false, w.from.ensures);
+            small = omega (arith, w.most-is, w.if-most-from.false, w.from.ensures);
             path = ap (λ p. p.now) w.last-is ∙ w.path_in-last.ensures
                 ∙ last_push storage es i _ c.loop-entry-test.true kept;
           }
@@ -56,8 +59,8 @@ loop-entry-preserved c =
                 (c.contains-is_extended.ensures tt);
             counted = w.count-is ∙ h.counted ∙ sym (ap length skip);
             few = omega (arith, w.count-is, h.few);
-            so_far = w.end-is ∙ h.so_far ∙ sym (ap (λ rs. 12 + length (entries_in v [] rs)) skip);
-            small = omega (arith, w.end-is, h.small);
+            so_far = w.most-is ∙ h.so_far ∙ sym (ap (λ rs. 12 + counted_in c.args.precision v [] rs) skip);
+            small = omega (arith, w.most-is, h.small);
             path = ap (λ p. p.now) w.last-is ∙ h.path ∙ sym (ap (last_of []) skip);
           }
     ]

@@ -1,7 +1,7 @@
 use Rattle.std.proofs.Common.{◌≡◌, ◌+◌, ◌<◌, ◌≤◌, ◌^◌, [], length, take}
 use Rattle.std.specs.List.{list_any}
 use Rattle.index_metadata.specs.Flags.{is_extended}
-use Rattle.index_entries.specs.EntryImage.{entries_in}
+use Rattle.index_entries.specs.Counted.{counted_in}
 use Rattle.index_entries.proofs.Written.{written_of, last_of}
 use Rattle.index_entries.proofs.write.totals_of.Given as goal
 
@@ -10,7 +10,7 @@ invariant-loop-entry l = record {
   extended : l.is_extended ≡ list_any (λ e. is_extended e.flags.0) (take l.entry-index l.entries);
   counted : l.count ≡ length (written_of l.storage (take l.entry-index l.entries));
   few : l.count ≤ l.entry-index;
-  so_far : l.end ≡ 12 + length (entries_in l.counted [] (written_of l.storage (take l.entry-index l.entries)));
-  small : l.end < 2 ^ 32;
+  so_far : l.most ≡ 12 + counted_in l.precision l.counted [] (written_of l.storage (take l.entry-index l.entries));
+  small : l.most < 2 ^ 32;
   path : l.last ≡ last_of [] (written_of l.storage (take l.entry-index l.entries));
 }

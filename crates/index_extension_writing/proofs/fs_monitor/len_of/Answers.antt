@@ -1,5 +1,5 @@
 use Rattle.std.proofs.Common.{◌≡◌, ◌+◌, length, arith, sym, ap, ◌∙◌}
-use Rattle.index_cached_tree.specs.TreeWriting.{within_32}
+use Rattle.index_parts.specs.Numbers.{within_32}
 use Rattle.index_bitmap_writing.specs.BitmapImage.{bitmap_bytes}
 use Rattle.index_extension_writing.specs.MonitorImage.{lent_monitor, monitor_bytes}
 use Rattle.index_bitmap_writing.proofs.Lengths.{none_within, some_within, within_none, within_some}

@@ -1,7 +1,7 @@
 use Rattle.std.proofs.Common.{ℕ, List, length, arith, sym, ap, ◌∙◌}
 use Rattle.std.specs.List.{flat_map}
 use Rattle.std.proofs.lemmas.List.{take_all}
-use Rattle.index_cached_tree.specs.TreeWriting.{within_32}
+use Rattle.index_parts.specs.Numbers.{within_32}
 use Rattle.index_untracked.specs.Blocks.{directory_value}
 use Rattle.index_untracked.specs.declared.Directory.{Directory}
 use Rattle.index_extension_writing.specs.UntrackedImage.{known_bytes}

@@ -1,6 +1,6 @@
 use Rattle.std.proofs.Common.{◌≡◌, ◌+◌, length, map, arith, sym, ap, ◌∙◌}
 use Rattle.std.proofs.lemmas.List.{length-map}
-use Rattle.index_cached_tree.specs.TreeWriting.{within_32}
+use Rattle.index_parts.specs.Numbers.{within_32}
 use Rattle.index_parts.specs.Offset.{offset_bytes}
 use Rattle.index_untracked.specs.Blocks.{directory_value}
 use Rattle.index_untracked.specs.Untracked.{cache_of}

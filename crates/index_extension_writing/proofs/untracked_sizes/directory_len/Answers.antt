@@ -1,6 +1,6 @@
 use Rattle.std.proofs.Common.{◌≡◌, ◌+◌, length, map, arith, sym, ap, ◌∙◌}
 use Rattle.bstr.specs.Owned.{bstring_bytes}
-use Rattle.index_cached_tree.specs.TreeWriting.{within_32}
+use Rattle.index_parts.specs.Numbers.{within_32}
 use Rattle.index_untracked.specs.Blocks.{directory_value}
 use Rattle.index_extension_writing.specs.UntrackedImage.{known_bytes, names_bytes}
 use Rattle.index_bitmap_writing.proofs.Lengths.{none_within, some_within, within_none, within_some}

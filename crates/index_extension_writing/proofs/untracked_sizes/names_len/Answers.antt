@@ -3,7 +3,7 @@ use Rattle.bstr.specs.Owned.{bstring_bytes}
 use Rattle.bstr.specs.declared.bstring.BString.{BString}
 use Rattle.std.specs.List.{flat_map}
 use Rattle.std.proofs.lemmas.List.{take_all}
-use Rattle.index_cached_tree.specs.TreeWriting.{within_32}
+use Rattle.index_parts.specs.Numbers.{within_32}
 use Rattle.index_bitmap_writing.proofs.Lengths.{too_long_at, within_some}
 use Rattle.index_extension_writing.proofs.WrittenDirectories.{names_same}
 use Rattle.index_extension_writing.proofs.untracked_sizes.names_len.Goals as goal

@@ -1,5 +1,5 @@
 use Rattle.std.proofs.Common.{◌≡◌, ◌≤◌, ◌^◌, ◌+◌, length, arith, sym, ap, ◌∙◌}
-use Rattle.index_cached_tree.specs.TreeWriting.{within_32}
+use Rattle.index_parts.specs.Numbers.{within_32}
 use Rattle.index_parts.specs.Offset.{offset_bytes}
 use Rattle.index_untracked.specs.Untracked.{cache_of}
 use Rattle.index_extension_writing.specs.UntrackedImage.{file_id, preamble_bytes}

@@ -1,4 +1,4 @@
-use Rattle.std.proofs.Common.{ℕ, ◌==◌, ◌+◌, ◌∙◌, ◌∷◌, [], ap, drop, length, rules, sym, map, arith, refl}
+use Rattle.std.proofs.Common.{ℕ, ◌==◌, ◌+◌, ◌∙◌, ◌∷◌, [], ap, drop, length, rules, sym, map, arith}
 use Rattle.std.specs.List.{slice_split}
 use Rattle.std.specs.Slice.Iter.{split_callee, split_rest}
 use Rattle.std.proofs.lemmas.Iterator.Consumers.{YieldsList-end, YieldsList-turn}

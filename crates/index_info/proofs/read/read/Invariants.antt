@@ -1,4 +1,4 @@
-use Rattle.std.proofs.Common.{◌≡◌, ◌==◌, ◌++◌, length, drop, map}
+use Rattle.std.proofs.Common.{◌≡◌, ◌==◌, length, drop, map}
 use Rattle.std.specs.List.{slice_split}
 use Rattle.index_info.specs.Text.{body_of, end_of, line_value, said}
 use Rattle.index_info.proofs.Lines.{left}

@@ -1,83 +1,34 @@
 use Rattle.std.proofs.Common.{refl}
 use Rattle.std.proofs.KnownBytes.{Keeps-refl}
 use Rattle.std.proofs.lemmas.Result.{err_from_is_err_and}
-use Rattle.gix_index.specs.FileFaults.ReadError.TheVariants.{Memory}
-use Rattle.index_failures.specs.Telling.{part, untold, whole}
+use Rattle.index_failures.specs.Telling.{part, untold}
 use Rattle.index_picture.specs.Picture.{picture_text}
-use Rattle.index_telling.proofs.Mappings.{any_parts}
+use Rattle.index_telling.proofs.Mappings.{any_parts, parts_of, parts_told}
 use Rattle.index_telling.proofs.map_svg.map_svg.Goals as goal
 
-pub returns-in_err-bytes : goal.returns-in_err-bytes
-returns-in_err-bytes g c =
+pub returns-in_err-division : goal.returns-in_err-division
+returns-in_err-division g c =
     let p = err_from_is_err_and c.from_residual.result c.from_residual.ensures.1 in
     rw (p.1, p.2) (record {
       told = tt;
-      refused = untold c.in_err-bytes.ensures.fault (Keeps-refl (g.W.Out.taken c.args.out.now));
+      refused = untold c.in_err-division.ensures.fault (Keeps-refl (g.W.Out.taken c.args.out.now));
     })
 
-pub returns-in_default : goal.returns-in_default
-returns-in_default g c = record {
-  told = tt;
-  refused = untold (record {
-    file = c.args.path;
-    names = refl;
-    fault = Memory;
-    is = c.out_of_memory.ensures;
-    says = tt;
-  }) (Keeps-refl (g.W.Out.taken c.args.out.now));
-}
-
 pub returns-in-Err : goal.returns-in-Err
-returns-in-Err g c = record {
-  told = tt;
-  refused = part c.in-Err.e refl c.in-Err.ensures.cause (record {
-    text = picture_text c.in-Ok.division.entries.records c.in-Ok.division.parts.items;
-    is = any_parts picture_text c.in-Ok.division.fault (g.D.Folder.known c.args.folder.now c.args.path.now) c.args.kind _
-        (record {
-          bytes = c.in_ok-bytes.bytes.items;
-          held = c.in_ok-bytes.ensures.held;
-          records = c.in-Ok.division.entries.records;
-          parts = c.in-Ok.division.parts.items;
-          divided = rw c.deref.ensures.value at c.in-Ok.ensures.divided;
-          is = refl;
-        });
-    grew = rw c.deref-2.ensures.value at c.in-Err.ensures.err;
-  });
-}
-
-pub returns-in-None : goal.returns-in-None
-returns-in-None g c = record {
-  told = record {
-    text = picture_text c.in-Ok.division.entries.records c.in-Ok.division.parts.items;
-    is = record {
-      bytes = c.in_ok-bytes.bytes.items;
-      held = c.in_ok-bytes.ensures.held;
-      records = c.in-Ok.division.entries.records;
-      parts = c.in-Ok.division.parts.items;
-      divided = rw (c.deref.ensures.value, c.in-None.is) at c.in-Ok.ensures.divided;
-      is = refl;
-    };
-    grew = rw c.deref-2.ensures.value at c.in_default-write_svg.ensures.ok;
-  };
-  refused = tt;
-}
+returns-in-Err g c =
+    let known = g.D.Folder.known c.args.folder.now c.args.path.now in
+    let division = c.in_ok-division.division in
+    record {
+      told = tt;
+      refused = part c.in-Err.e refl c.in-Err.ensures.cause (record {
+        text = picture_text division.entries.records division.parts.items;
+        is = any_parts picture_text division.fault known c.args.kind _
+            (parts_of picture_text known c.args.kind division c.in_ok-division.ensures.divided);
+        grew = rw c.deref.ensures.value at c.in-Err.ensures.err;
+      });
+    }
 
 pub returns : goal.returns
-returns g c = record {
-  told = tt;
-  refused = whole c.args.path _ c.in-Some.fault refl refl (record {
-    text = picture_text c.in-Ok.division.entries.records c.in-Ok.division.parts.items;
-    is = (
-      record {
-        bytes = c.in_ok-bytes.bytes.items;
-        held = c.in_ok-bytes.ensures.held;
-        records = c.in-Ok.division.entries.records;
-        parts = c.in-Ok.division.parts.items;
-        divided = rw (c.deref.ensures.value, c.in-Some.is) at c.in-Ok.ensures.divided;
-        is = refl;
-      },
-      rw c.deref-3.ensures.value at c.last_begin-offset.ensures,
-    );
-    grew = rw c.deref-2.ensures.value at c.in_default-write_svg.ensures.ok;
-  });
-}
+returns g c = parts_told g.W.Out c.args.out.now _ _ c.args.path.now (g.D.Folder.known c.args.folder.now c.args.path.now)
+    c.args.kind c.in_ok-division.division c.in_ok-division.ensures.divided c.ended.result c.ended.ensures picture_text
+    (rw c.deref.ensures.value at c.in_default.ensures.ok)

@@ -34,8 +34,8 @@ returns-in-Some-fault_behind-clause-fault g c = λ d before.
     c.kind.result c.in-Some-fault_behind.fault (sym c.is_removed.ensures ∙ c.if-is_removed.false) (sym c.stage_raw.ensures
     ∙ c.if-stage_raw-ne0.false) (named ∙ ap Some (sym c.kind.ensures)) c.in-Some-fault_behind.ensures.some
 
-pub returns-then-not-is_of-clause-fault : goal.returns-then-not-is_of-clause-fault
-returns-then-not-is_of-clause-fault g c = λ d before.
+pub returns-then-not-is_of_kind-clause-fault : goal.returns-then-not-is_of_kind-clause-fault
+returns-then-not-is_of_kind-clause-fault g c = λ d before.
     let r = slice_index_or c.args.entries.now c.args.place d in
     let e = c.entry-entry.result.now in
     let named = some_named c.to_tree_entry_mode.result
@@ -45,7 +45,7 @@ returns-then-not-is_of-clause-fault g c = λ d before.
     c.kind.result (sym c.is_removed.ensures ∙ c.if-is_removed.false)
     (sym c.stage_raw.ensures ∙ c.if-stage_raw-ne0.false) (named ∙ ap Some (sym c.kind.ensures))
     (c.fault_behind.ensures.none c.in_default-fault_behind.is)
-    (λ k. absurd (false≢true (sym c.if-not-is_of.true ∙ c.is_of.ensures.same.1 k)))
+    (λ k. absurd (false≢true (sym c.if-not-is_of_kind.true ∙ c.is_of_kind.ensures.same.1 k)))
 
 pub returns-then-is_null-clause-fault : goal.returns-then-is_null-clause-fault
 returns-then-is_null-clause-fault g c = λ d before.
@@ -58,5 +58,5 @@ returns-then-is_null-clause-fault g c = λ d before.
     c.kind.result (sym c.is_removed.ensures ∙ c.if-is_removed.false)
     (sym c.stage_raw.ensures ∙ c.if-stage_raw-ne0.false) (named ∙ ap Some (sym c.kind.ensures))
     (c.fault_behind.ensures.none c.in_default-fault_behind.is)
-    (c.is_of.ensures.same.0 c.if-not-is_of.false)
+    (c.is_of_kind.ensures.same.0 c.if-not-is_of_kind.false)
     (λ z. absurd (false≢true (sym z ∙ sym c.is_null.ensures ∙ c.if-is_null.true)))

@@ -1,5 +1,4 @@
-use Rattle.std.proofs.Common.{◌≡◌, ◌∙◌, ap, map, subst, sym}
-use Rattle.index_untracked.specs.Blocks.{directory_value}
+use Rattle.std.proofs.Common.{◌∙◌, ap, subst, sym}
 use Rattle.index_untracked.specs.Untracked.{CacheIdsAreOf, cache_of}
 use Rattle.index_untracked.specs.UntrackedEdits.{invalidated_from}
 use Rattle.index_untracked.proofs.Invalidating.{ids_stay}

@@ -1,0 +1,17 @@
+use Rattle.std.proofs.Common.{◌≡◌, ◌≤◌, ◌-◌, ◌^◌, length}
+use Rattle.index_window.proofs.Counts.{Counts}
+use Rattle.index_window.proofs.Hashed.{IsHashedOn}
+use Rattle.index_window.proofs.disk.read_pieces.Given as goal
+
+abbrev pub invariant-pieces : goal.invariant-pieces
+invariant-pieces g l =
+    record {
+      so_far : IsHashedOn l.kind l.is_hashed l.is_held (g.S.Source.remaining l.fn.file) (g.S.Source.remaining l.file)
+          l.hasher l.fn.bytes.items l.bytes.items l.passed l.len;
+      len : l.len ≤ 2 ^ 63;
+      counted : Counts (g.S.Source.remaining l.fn.file) (g.S.Source.remaining l.file) (length l.fn.bytes.items) l.len;
+      works : g.S.Source.works l.file ≡ g.S.Source.works l.fn.file;
+    }
+
+abbrev pub decreases-pieces : goal.decreases-pieces
+decreases-pieces g l = 2 ^ 64 - l.len
