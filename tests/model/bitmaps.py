@@ -2,7 +2,7 @@
 
 from dataclasses import dataclass
 
-from bytes import Unreadable, number, numbers
+from tests.model.bytes import Unreadable, number, numbers
 
 # What stands in the place of a position where the words break off.
 MALFORMED = "malformed"

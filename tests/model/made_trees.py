@@ -1,8 +1,8 @@
 """The trees of an index, as git makes them of its entries (git-write-tree, gitformat-index "Cache tree")."""
 
-import trees
-from bytes import digest, kind_of_id, null_id
-from entries import DIRECTORY, EXECUTABLE, FILE, INTENT_TO_ADD, SUBMODULE, SYMLINK
+from tests.model import trees
+from tests.model.bytes import digest, kind_of_id, null_id
+from tests.model.entries import DIRECTORY, EXECUTABLE, FILE, INTENT_TO_ADD, SUBMODULE, SYMLINK
 
 MODES = (FILE, EXECUTABLE, SYMLINK, SUBMODULE, DIRECTORY)
 

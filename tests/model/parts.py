@@ -4,12 +4,8 @@ from dataclasses import dataclass, field
 from types import SimpleNamespace
 from typing import Optional
 
-import entries
-import extensions
-import files
-import merging
-import state
-from bytes import ID_LENGTH, Unreadable, digest, null_id
+from tests.model import entries, extensions, files, merging, state
+from tests.model.bytes import ID_LENGTH, Unreadable, digest, null_id
 
 
 # The modes of entries, but that of a whole directory.
