@@ -168,9 +168,9 @@ def taken(tool, folder, kind, data, what):
         yield f"{name}: what is told: {status}, {faults}", (status, out, faults.count(b"\n")) == (0, b"", 1)
         # (renames are found by reading both files, and an id of a damaged entry names no file)
         for asked in ("ls-files", "-s", "-z"), ("status", "-s", "--no-renames"):
-            done, _, said = ask_git(folder, *asked)
+            done, _, fault = ask_git(folder, *asked)
             # (an id that names no object is found by git alone, where it reads the tree of a whole directory)
-            yield f"{name}: git {asked[0]}: {said}", done == 0 or said.startswith(b"fatal: unable to read tree ")
+            yield f"{name}: git {asked[0]}: {fault}", done == 0 or fault.startswith(b"fatal: unable to read tree ")
         yield f"{name}: check", answer((tool, "check", kind, index)) == (0, b"ok\n", b"")
         yield f"{name}: the version", index.read_bytes()[7] in ({4} if data[7] == 4 else {2, 3})
         kept[words] = answer((tool, "list", "-z", kind, index))[1].split(b"\0")[:-1]

@@ -32,6 +32,7 @@ NAMES = (
     b"a", b"a-b", b"a.b", b"a0", b"ab", b"a b", b"a\tb", b"a\nb", b"A", b"b", b"b-", b"-", b"~", b"\xc3\xa9", b"\xff"
 )
 
+
 def read(data, kind):
     """The index that bytes are, by the model."""
     return state.read_file(data, kind)[0]

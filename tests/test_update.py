@@ -43,6 +43,7 @@ def by(index):
 
 def quoted(source, path):
     """A path in double quotes, each byte spelled in one of the ways that there are."""
+
     def spelled(byte):
         if byte in LETTERS and source.random() < 0.7:
             return b"\\%c" % LETTERS[byte]
@@ -298,12 +299,10 @@ def sparse(tool, folder, kind):
 def instructions(tool, folder, before, lines):
     """The instructions by which lines change an index that others have made."""
     (folder / "made").unlink(missing_ok=True)
-    words, text = (tool, "update", "sha1", folder / "made"), folder / "lines"
+    words = (tool, "update", "sha1", folder / "made")
     made = answer(words, input=b"".join(before))
-    text.write_bytes(b"".join(lines))
     counted = ("valgrind", "--tool=callgrind", "--callgrind-out-file=/dev/null")
-    with text.open("rb") as given:
-        told = answer((*counted, *words), stdin=given)
+    told = answer((*counted, *words), input=b"".join(lines))
     found = re.search(rb"Collected : (\d+)", told[2])
     return int(found[1]) if found and made[0] == told[0] == 0 else 0
 
