@@ -27,7 +27,7 @@ SOURCES = ("scripts", "readme", "numbers", "rows")
 CHECK = (*SOURCES, "commands", "first", "examples", "refused")
 OTHERS = (
     "versions", "kept", "trees", "staged", "update", "saved", "found", "howto", "kill", "live", "tasks", "python",
-    "windows", "digests", "maps", "pictures", "json", "headers", "files", "linked", "fuzz", "worst",
+    "windows", "digests", "maps", "pictures", "json", "headers", "files", "linked", "called", "fuzz", "worst",
 )
 GROUPS = {"sources": SOURCES, "check": CHECK, "ci": CHECK + OTHERS}
 

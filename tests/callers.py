@@ -69,6 +69,7 @@ def in_python(room, name):
     """An example in Python over the module that is installed, as a program."""
     made, script = room / f"{name}-in-python", TOP / "python" / "examples" / f"{name}.py"
     module = shlex.quote(f"PYTHONPATH={room / 'prefix' / 'lib' / 'python'}")
-    made.write_text(f"#!/bin/sh\nexec env {module} {shlex.quote(sys.executable)} -B {shlex.quote(str(script))} \"$@\"\n")
+    python, example = shlex.quote(sys.executable), shlex.quote(str(script))
+    made.write_text(f"#!/bin/sh\nexec env {module} {python} -B {example} \"$@\"\n")
     made.chmod(0o755)
     return made

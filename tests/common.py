@@ -7,8 +7,6 @@ import tempfile
 
 import crates
 
-from tests import TOP
-
 KINDS = ("sha1", "sha256")
 ID_LEN = {"sha1": 20, "sha256": 32}
 BUILT = "TEST_BUILT"
@@ -46,7 +44,8 @@ def run(words, **options):
 
 def in_valgrind(tool, words, **options):
     """What a tool of valgrind says of one run."""
-    return answer(("valgrind", f"--tool={tool}", *words), stdin=subprocess.DEVNULL, **options)[2].decode(errors="replace")
+    faults = answer(("valgrind", f"--tool={tool}", *words), stdin=subprocess.DEVNULL, **options)[2]
+    return faults.decode(errors="replace")
 
 
 def steps(words, **options):

@@ -5,7 +5,7 @@ import pathlib
 import tempfile
 
 from tests.common import KINDS, Broken
-from tests.repository import READING, ask_git, git, index_in, write
+from tests.repository import ask_git, git, index_in, write
 
 QUESTIONS = (
     ("ls-files", "-s"),
@@ -113,6 +113,8 @@ def in_blocks(folder):
 
 SORTS = (alone, conflicts, resolved, meant_to_be_added, skipped, sparse, split, in_blocks)
 SORTS_BY_NAME = {sort.__name__: sort for sort in SORTS}
+# Those whose entries are searched: a split index has some with an empty path.
+SEARCHED = ("alone", "conflicts", "skipped", "sparse", "in_blocks")
 
 
 def made(room, kind, sort):
@@ -139,8 +141,13 @@ def kept(kind, name):
     return made(kept_room(), kind, SORTS_BY_NAME[name])
 
 
+def index_of(kind, name):
+    """The index of such a repository."""
+    return index_in(kept(kind, name))
+
+
 def indexes():
     """The indexes of repositories of each kind and sort: kind, name of the sort, and path."""
     for kind in KINDS:
         for name in SORTS_BY_NAME:
-            yield kind, name, index_in(kept(kind, name))
+            yield kind, name, index_of(kind, name)

@@ -187,7 +187,8 @@ def damage(room, checkers):
         done, totals = failing.counts_of(words_of, room / "counts")
         yield f"a damaged shared index in {language}: {done}", done[0] == 1 and totals["request"] > 3
         for what, refusal in each_failure(totals | dict.fromkeys(COUNTED, 0), ("request", ALONE)):
-            yield f"a damaged shared index in {language}, {what}", answer(words_of, env=failing.settings(**refusal))[0] != 0
+            status = answer(words_of, env=failing.settings(**refusal))[0]
+            yield f"a damaged shared index in {language}, {what}", status != 0
 
 
 class Whole(Case):

@@ -272,7 +272,7 @@ def sparse(tool, folder, kind):
     git(folder, "commit", "-q", "-m", "x")
     git(folder, "sparse-checkout", "set", "--cone", "--sparse-index", "in")
     begun = index_in(folder).read_bytes()
-    whole = byindex_in(folder)(folder, "ls-files", "--sparse", "-s")[1]
+    whole = by(index_in(folder))(folder, "ls-files", "--sparse", "-s")[1]
     yield "git made a sparse index", b"040000 " in whole and b"\tout/\n" in whole
     blob, tree = (git(folder, "rev-parse", name).split()[0] for name in ("HEAD:top", "HEAD:out"))
     index, right = (folder / "theirs", folder / "ours"), b"100644 %s\tx\n" % blob
