@@ -32,10 +32,6 @@ FAR = b"\xff" * 4 + (1).to_bytes(4, "big") + (2 ** 33 - 1).to_bytes(8, "big") + 
 BROKEN_WORDS = (1 | 1 << 1 | 1 << 33, 1 | 1 << 2 | 1 << 63, 1 << 33)
 BROKEN = b"\0\0\0\xc8\0\0\0\3" + b"".join(it.to_bytes(8, "big") for it in BROKEN_WORDS) + bytes(4)
 FAR_LINK = b"link" + (20 + len(FAR + BROKEN)).to_bytes(4, "big") + b"\x11" * 20 + FAR + BROKEN
-# The most processor seconds that are taken to tell of them: bit by bit it would be some ten.
-MOST_SECONDS = 1
-# How many seconds of the clock are waited for a program that might wait for a second writer of a pipe.
-MOST_WAIT = 60
 # A link with an id of ones, and two bitmaps of no bits.
 SPLIT = b"DIRC\0\0\0\2\0\0\0\0" + b"link\0\0\0\x2c" + b"\x11" * 20 + bytes(24) + NULL
 # The same to the index of one entry, whose file has its digest in its name.
@@ -147,3 +143,53 @@ TREED = BODY + NODE
 def sealed(data):
     """The bytes with their digest at the end."""
     return data + hashlib.sha1(data).digest()
+
+# Words that are no command, and the line that is said of them.
+LEFT_OUT = "KIND and FILE are missing; with --auto each may be left out, FILE in a work tree"
+NO_WORDS = "KIND, FILE and OUT are missing; with --auto KIND may be left out"
+NO_MISSING = "unexpected argument '--missing-ok' found; to pass '--missing-ok' as a value, use '-- --missing-ok'"
+WRONG = [
+    ("", "a command is missing (see index-tool --help)"),
+    ("lst", "unrecognized subcommand 'lst', did you mean 'list'?"),
+    ("List sha1 a", "unrecognized subcommand 'List', did you mean 'list'?"),
+    ("help lst", "unrecognized subcommand 'lst', did you mean 'list'?"),
+    ("a\nb\x1b[1m", "unrecognized subcommand 'a\\nb\\u{1b}[1m'"),
+    ("--hlep", "unexpected argument '--hlep' found, did you mean '--help'?"),
+    ("list", LEFT_OUT),
+    ("check-trees", LEFT_OUT),
+    ("list sha1", "FILE is missing behind KIND"),
+    ("list whole.index", "invalid value 'whole.index' for KIND: it is sha1 or sha256, or left out with --auto"),
+    ("list md5", "invalid value 'md5' for KIND: it is sha1 or sha256, or left out with --auto"),
+    ("list md5 x", "invalid value 'md5' for KIND: it is sha1 or sha256, or left out with --auto"),
+    ("list --auto md5 x", "invalid value 'md5' for KIND: it is sha1 or sha256, or left out with --auto"),
+    ("list SHA1 x", "invalid value 'SHA1' for KIND: it is sha1 or sha256, or left out with --auto"),
+    ("list sha1 a b", "unexpected argument 'b' found"),
+    ("list -z -z sha1 whole.index", "the argument '-z' cannot be used multiple times"),
+    ("list -a --auto whole.index", "the argument '--auto' cannot be used multiple times"),
+    ("list --quoted a", "unexpected argument '--quoted' found, did you mean '--quote'?"),
+    ("list --keep sha1 a", "unexpected argument '--keep' found; to pass '--keep' as a value, use '-- --keep'"),
+    ("list --strict sha1 a", "unexpected argument '--strict' found; to pass '--strict' as a value, use '-- --strict'"),
+    ("check -z sha1 whole.index", "unexpected argument '-z' found; to pass '-z' as a value, use '-- -z'"),
+    ("map-svg sha1 whole.index picture.svg", "unexpected argument 'picture.svg' found"),
+    ("trees --missing-ok sha1 whole.index", NO_MISSING),
+    ("rewrite --missing-ok sha1 whole.index none.index", NO_MISSING),
+    ("rewrite --all sha1 a b", "unexpected argument '--all' found; to pass '--all' as a value, use '-- --all'"),
+    ("rewrite-trees --missing-ok --missing-ok sha1 a b", "the argument '--missing-ok' cannot be used multiple times"),
+    ("rewrite", NO_WORDS),
+    ("rewrite sha1 whole.index", "OUT is missing behind FILE"),
+    (
+        "rewrite whole.index none.index",
+        "invalid value 'whole.index' for KIND: it is sha1 or sha256, or left out with --auto",
+    ),
+    ("rewrite --auto whole.index", "OUT is missing behind FILE"),
+    ("rewrite4 sha1", "FILE and OUT are missing behind KIND"),
+    ("rewrite-trees", NO_WORDS),
+    ("rewrite-trees --missing-ok sha1 whole.index", "OUT is missing behind FILE"),
+    ("update -z", "KIND and FILE are missing; with --auto KIND may be left out"),
+    ("update whole.index", "invalid value 'whole.index' for KIND: it is sha1 or sha256, or left out with --auto"),
+    ("update sha1 -", "invalid value '-' for FILE: the standard input has the changes"),
+    ("update sha1 whole.index more", "unexpected argument 'more' found"),
+    ("salvage", NO_WORDS),
+    ("rewrite sha1 whole.index -", "invalid value '-' for OUT: it is the path of a file, as `./-` is"),
+    ("rewrite sha1 whole.index none.index more", "unexpected argument 'more' found"),
+]
