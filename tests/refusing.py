@@ -5,7 +5,7 @@ import re
 import subprocess
 
 from tests import TOP, failing
-from tests.model import change_answers, extensions, index_answers, lookup_answers, show, tool_answers, words
+from tests.model import change_answers, index_answers, lookup_answers, show, tool_answers, words
 
 MODELS = {"test_rows": index_answers, "test_lookup_rows": lookup_answers, "test_change_rows": change_answers}
 # How a call of the system is refused: the kind that is counted, whether all behind it are, and the error's number.
