@@ -1,4 +1,4 @@
-/* What tests/test_called.py asks of changes of an index, in one process: changed WORD KIND FILE [SHARED].
+/* What test_called asks of changes of an index, in one process: changed WORD KIND FILE [SHARED].
  *
  * commit  makes those of standard input of the index at FILE, under its lock: lines as `git update-index
  *         --index-info` takes them, each `MODE SP ID SP STAGE TAB PATH`

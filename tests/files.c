@@ -1,4 +1,4 @@
-/* What tests/test_files.py asks in one process of the files that gix_index_file.h opens: files KIND FILE SPLIT. FILE and SPLIT
+/* What test_files asks in one process of the files that gix_index_file.h opens: files KIND FILE SPLIT. FILE and SPLIT
  * are sound indices of three entries, SPLIT with the shared one beside it; what is written stands at FILE.out.
  *
  * Each call leaves as many files open as were before it, whatever it answers. FILE and SPLIT are read and pass a check,

@@ -1,4 +1,4 @@
-/* What tests/test_called.py asks of the trees of an index, in one process: given WORD KIND FILE.
+/* What test_called asks of the trees of an index, in one process: given WORD KIND FILE.
  *
  * list   prints those of the index at FILE, its link followed, in turn, as `git cat-file --batch` prints objects; or
  *        'fault N at N'

@@ -1,4 +1,4 @@
-/* What tests/test_called.py asks of what the library keeps of an index, and of two files that are read as one, in one process:
+/* What test_called asks of what the library keeps of an index, and of two files that are read as one, in one process:
  * kept WORD KIND WANTED FILE [SHARED]. WANTED is what is to be written of FILE, with its cached tree.
  *
  * over        writes the table of FILE over FILE into rooms of each size, from none up to one too large, and with rows

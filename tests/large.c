@@ -1,4 +1,4 @@
-/* What tests/test_called.py asks of the library of a long file, in memory of just the sizes that are told: large KIND FILE.
+/* What test_called asks of the library of a long file, in memory of just the sizes that are told: large KIND FILE.
  *
  * The file is read into such a table, and with a row or a byte less into none; its rows are found by their paths; it is
  * written in each version into such a room, and with a byte less into none; what is written is read again, and passes a
@@ -80,7 +80,8 @@ static void written(const gix_index_table *whole, uint32_t version) {
     expect(status == GIX_INDEX_DONE && told.bytes == len, "a room of the size", told.bytes, 0);
     same(room, len, whole, "another table is read back");
     status = gix_index_check(room, len, kind, false, text, sizeof text, &said);
-    expect(status == GIX_INDEX_DONE && said.entries == whole->said.entries, "what is written fails a check", version, 0);
+    bool is_sound = status == GIX_INDEX_DONE && said.entries == whole->said.entries;
+    expect(is_sound, "what is written fails a check", version, 0);
     free(small);
     free(room);
 }

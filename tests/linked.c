@@ -1,4 +1,4 @@
-/* What tests/test_called.py asks of reading, checking and searching, in one process: linked WORD KIND FILE.
+/* What test_called asks of reading, checking and searching, in one process: linked WORD KIND FILE.
  *
  * sizes     reads the file into tables of each size, from none up to one too large
  * numbers   reads and checks it as of kinds that are none, and with a wrong digest: the summary is written whole

@@ -1,4 +1,4 @@
-/* What tests/test_called.py asks of locks and of reading files, in one process: locked KIND FILE. FILE is an index, and what is
+/* What test_called asks of locks and of reading files, in one process: locked KIND FILE. FILE is an index, and what is
  * made stands beside it, in the folder FILE.d, which is gone at the end.
  *
  * A line on standard output for each thing that isn't so, or 'ok'. The status is 1 where a file can't be made here. */

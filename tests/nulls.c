@@ -1,7 +1,7 @@
-/* What tests/test_called.py asks of calls that get NULL with a length of 0, as gix_index.h lets them: nulls KIND FILE. FILE is
+/* What test_called asks of calls that get NULL with a length of 0, as gix_index.h lets them: nulls KIND FILE. FILE is
  * an index with entries in order and without a link, and what is written goes to FILE.nulls.
  *
- * It is C and C++ at once, as the headers are, and tests/test_called.py builds and runs it as both. A line on standard output
+ * It is C and C++ at once, as the headers are, and test_called builds and runs it as both. A line on standard output
  * for each thing that isn't so, or 'ok'. The status is 1 where a file can't be read here. */
 #include "check.h"
 

@@ -147,8 +147,8 @@ class Writing(Commands):
     def test_lock_of_another(self):
         self.call(
             "rewrite sha1 whole.index held.index", 1, b"",
-            "index-tool: held.index: the index is locked, as held.index.lock is there: another process writes the index,"
-            " or ended while it did; if none does, remove that file\n",
+            "index-tool: held.index: the index is locked, as held.index.lock is there: another process writes the "
+            "index, or ended while it did; if none does, remove that file\n",
         )
         self.written("held.index.lock", FILES["held.index.lock"])
 

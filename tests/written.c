@@ -1,4 +1,4 @@
-/* What tests/test_called.py asks of writing, in one process: written WORD KIND FILE.
+/* What test_called asks of writing, in one process: written WORD KIND FILE.
  *
  * threads   reads the file and writes it in four threads at once, many times
  * rooms     writes its table in each way into rooms of each size, from none up to one too large, and reads it again

@@ -84,7 +84,7 @@ class Parts:
         return int.from_bytes(self.data[4:8], "big")
 
     def saved(self, kind, folder, keeps_all=False):
-        """The entries that are kept, with those of the shared index that stands in the folder; how many are told, up to the
+        """The entries that are kept, with those of the shared index that is in the folder; how many are told, up to the
         words of a fault; and what became of the shared index. Kept are those before the first at fault, or all that git
         works with, in order, of each path and stage the first."""
         found, told = self.completed(kind, folder)
