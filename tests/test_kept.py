@@ -205,7 +205,8 @@ def files(tool, room, kind, folder, counts):
         told = written(tool, "rewrite", kind, data, room)
         yield f"{path}, which git {'wrote' if is_same else 'writes otherwise'}", told == wanted
     names = f" ({', '.join(others)})" if others else ""
-    print(f"kept: {kind}: {same} are as git writes them, {len(others)} aren't{names}; {left} are split or refused")
+    if same or others or left:
+        print(f"kept: {kind}: {same} are as git writes them, {len(others)} aren't{names}; {left} are split or refused")
     counts["same"] = same
 
 
