@@ -52,7 +52,7 @@ COMMANDS = (
         "List the entries, as `git ls-files --stage` does", LINES,
     ),
     Command(
-        "check", False, "prints `ok` if the entries are in order, the cache tree is consistent and the checksum matches",
+        "check", False, "prints `ok` if entries are in order, the cache tree is consistent and the checksum matches",
         "Check the order of the entries, the cached tree and the digest", (STRICT,), end=UNCHECKED,
     ),
     Command(
@@ -64,14 +64,14 @@ COMMANDS = (
         "Name each part of the file, up to its first fault", LINES,
     ),
     Command("map-svg", False, "draws these parts to scale, as an SVG picture", "Draw these parts as a picture (SVG)"),
-    Command("show", False, "prints everything in FILE except unknown or malformed extensions", "Show all that the file holds"),
+    Command("show", False, "prints all of FILE except unknown or malformed extensions", "Show all that the file holds"),
     Command("show-json", False, "prints the same as one JSON object", "Show the same as JSON"),
     Command(
         "trees", False, "prints id, entry count and path of each directory, as `git write-tree` makes them",
         "List the trees that the entries make, as `git write-tree` would", LINES,
     ),
     Command(
-        "rewrite", True, "writes the index to OUT, with `TREE`, `sdir` and an end marker, in version 2, or 3 if flags need it",
+        "rewrite", True, "writes OUT with `TREE`, `sdir` and an end marker, in version 2, or 3 if flags need it",
         "Write the index again", (KEEP,),
     ),
     Command("rewrite4", True, "does the same in version 4", "Write the index again in version 4", (KEEP4,)),
@@ -84,7 +84,7 @@ COMMANDS = (
         "Change the index, as `git update-index --index-info` does", (NUL_LINES,), False,
     ),
     Command(
-        "salvage", True, "writes the entries of a damaged FILE before the first invalid one to OUT, and reports how many",
+        "salvage", True, "writes to OUT the entries of a damaged FILE before the first invalid one, and a report",
         "Write what can be saved of a damaged index", (ALL,),
     ),
 )
