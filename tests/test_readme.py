@@ -72,5 +72,6 @@ class Readme(Case):
                 continue
             lib = installed.prefix() / "lib"
             settings = {"PKG_CONFIG_PATH": str(lib / "pkgconfig"), "PYTHONPATH": str(lib / "python")}
+            settings |= {"LD_LIBRARY_PATH": str(lib)}
             settings |= {"GIX_INDEX_LIB": str(lib), "CARGO_TARGET_DIR": str(self.room())}
             self.look(page, settings)
