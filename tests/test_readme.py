@@ -1,10 +1,11 @@
 """The samples of README.md and of the READMEs for callers do what these pages show, as a reader would paste them.
 
-A block of a language after a line 'Save this as `NAME`:' is a file of that name. A block `console` has commands: a line
-`$ WORDS` is one, and the lines after it are all that it prints, with `...` for any text within a line. Blocks with
-`make` are instructions to install, and aren't run. All other blocks of a page are run in turn, in one shell and a temporary
-folder: for README.md an empty one, and for the others a repository in which the file README is staged. `index-tool` is
-the program, SOURCES the folder of these sources, and the variables of the instructions name an installed library.
+A block of a language after a line 'Save this as `NAME`:' is a file of that name. A block `console` has commands: a
+line `$ WORDS` is one, and the lines after it are all that it prints, with `...` for any text within a line. Blocks
+with `make` are instructions to install, and aren't run. All other blocks of a page are run in turn, in one shell and a
+temporary folder: for README.md an empty one, and for the others a repository in which the file README is staged.
+`index-tool` is the program, SOURCES the folder of these sources, and the variables of the instructions name an
+installed library.
 """
 import os
 import re
