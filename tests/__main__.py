@@ -23,11 +23,11 @@ import unittest
 from tests import case
 from tests.common import BUILT
 
-SOURCES = ("scripts", "readme", "numbers", "rows")
+SOURCES = ("scripts", "numbers", "rows")
 CHECK = (*SOURCES, "commands", "first", "examples", "refused")
 OTHERS = (
-    "versions", "kept", "trees", "staged", "update", "saved", "found", "howto", "kill", "live", "tasks", "python",
-    "windows", "digests", "maps", "pictures", "json", "headers", "files", "linked", "called", "fuzz", "worst",
+    "versions", "kept", "trees", "staged", "update", "saved", "found", "howto", "readme", "kill", "live", "tasks",
+    "python", "windows", "digests", "maps", "pictures", "json", "headers", "files", "linked", "called", "fuzz", "worst",
 )
 GROUPS = {"sources": SOURCES, "check": CHECK, "ci": CHECK + OTHERS}
 

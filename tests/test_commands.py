@@ -5,7 +5,6 @@ is 1, whatever characters its name has; where it is 2, one line names what is wr
 """
 import json
 import os
-import re
 import shutil
 import subprocess
 import threading
@@ -314,16 +313,6 @@ class Words(Commands):
         for words, text in asked:
             got = self.answer(*words)
             self.hold(f"{words}: {got}", got == (0, text, b""))
-
-    def test_calls_of_the_readme_print_what_it_shows(self):
-        """They print the lines there, in their order, among others."""
-        # (`prove` is a word of the script alone)
-        shown = r"^ {4}\$ \./index-tool (?!prove)([^#\n]*).*\n((?: {4}[^$\n].*\n)*)"
-        for words, lines in re.findall(shown, (TOP / "README.md").read_text(), re.MULTILINE):
-            status, out, faults = answer((self.tool, *words.split()), cwd=TOP)
-            rest = iter(out.decode().splitlines())
-            missing = [line for line in lines.splitlines() if line[4:] not in rest]
-            self.hold(f"README.md: {words}: {status}, {out}, {faults}", lines and not missing and status == 0)
 
 
 class Faults(Commands):

@@ -33,6 +33,12 @@ class Scripts(Case):
     def test_imports_names_paths_and_lines(self):
         self.finds_nothing("tools/lint")
 
+    def test_sentences_and_words(self):
+        self.finds_nothing("tools/prose")
+
+    def test_claims_name_what_exists(self):
+        self.finds_nothing("tools/claims")
+
     def test_pictures_are_current(self):
         self.finds_nothing(sys.executable, "docs/draw", "--check")
 
