@@ -27,6 +27,7 @@ from wrapping import wrap_all
 LEFT_OUT = {".git", "out", "target", "__pycache__", "node_modules"}
 # What is made, or carried over by tools/carry.py, and maps.
 MADE = ("refusals/seen", "tools/names")
+PROSE, LONG = (".md", ".edit", ".list"), 100_000
 
 
 def files_of(top):
@@ -111,8 +112,8 @@ class Mover:
         return self.moved(path)
 
 
-def named_crates(workspace, text):
-    return [crate for crate in workspace.crates if re.search(rf"(?<!\w){crate}(?!\w)", text)]
+def named_crates(rewriter, text):
+    return sorted({word for word in re.findall(r"\b[a-z_]+\b", text) if word in rewriter.workspace.listed})
 
 
 def paragraphs(text):
@@ -123,8 +124,8 @@ def document(rewriter, mover, path, text):
     """The new text of a document or script: names by the crates that the paragraph or the path names."""
     own = path.parts[1] if path.parts[0] in ("crates", "refusals") and len(path.parts) > 2 else None
     found = []
-    for paragraph in paragraphs(text):
-        crates_named = named_crates(rewriter.workspace, paragraph) or [own]
+    for paragraph in paragraphs(text) if path.suffix == ".md" else [text]:
+        crates_named = named_crates(rewriter, paragraph) or [own]
         paragraph = applied(paragraph, rewriter.in_prose(paragraph, 0, None, tuple(crates_named)))
         found.append(mover.in_text(paragraph, own or (crates_named[0] if len(crates_named) == 1 else None)))
     return rewriter.with_crates("".join(found))
@@ -144,14 +145,15 @@ def list_line(rewriter, mover, line):
 def new_text(rewriter, mover, top, path):
     """The new text of a file, or None where it is none."""
     parts = path.parts
-    if parts[0] == "crates" and len(parts) > 3 and parts[1] in rewriter.workspace.crates:
-        for (crate, part, _), file in rewriter.by_crate[parts[1]]:
-            if file.path == top / path:
-                return rewriter.rewritten(file)
+    if str(path) in rewriter.sources:
+        return rewriter.rewritten(rewriter.sources[str(path)])
     try:
         text = (top / path).read_text(encoding="utf-8")
     except UnicodeDecodeError:
         return None
+    if path.suffix not in PROSE and len(text) > LONG:
+        # (made texts, as tables and pictures, name crates alone)
+        return rewriter.with_crates(text)
     if path.suffix == ".edit":
         crate = parts[2] if parts[:2] == ("refusals", "control") else parts[1]
         return rewriter.edit(text, crate)
@@ -164,9 +166,7 @@ def new_text(rewriter, mover, top, path):
 def rename(rewriter, top):
     """Writes all files anew, each where it goes; gives how many changed and how many moved."""
     mover, written = Mover(rewriter), {}
-    rewriter.by_crate = {}
-    for key, file in rewriter.workspace.files.items():
-        rewriter.by_crate.setdefault(key[0], []).append((key, file))
+    rewriter.sources = {str(file.path.relative_to(top)): file for file in rewriter.workspace.files.values()}
     # (sources first: their calls give the names of goals)
     paths = sorted(files_of(top), key=lambda path: (path.suffix != ".rt", str(path)))
     for path in paths:

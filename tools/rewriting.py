@@ -55,13 +55,18 @@ class Rewriter:
         self.renames, self.workspace = renames, renames.workspace
         self.called = collections.defaultdict(dict)
         self.notes = []
-        olds = sorted(renames.crates, key=len, reverse=True)
-        self.crate = re.compile(rf"(?<!\w)(?:{'|'.join(olds)})(?!\w)") if olds else None
+        fronts = sorted({name.partition("_")[0] for name in renames.crates})
+        self.crate = re.compile(rf"\b(?:{'|'.join(fronts)})_\w+") if fronts else None
         self.methods = {item[-1]: new for item, new in renames.new.items() if item[0] == "method"}
 
     def with_crates(self, text):
-        """The text with the new names of crates, which are names of nothing else."""
-        return self.crate.sub(lambda found: self.renames.crates[found[0]], text) if self.crate else text
+        """The text with the new names of crates, which are names of nothing else but of a script's functions."""
+
+        def new_name(found):
+            is_called = text[found.end() : found.end() + 1] == "("
+            return found[0] if is_called else self.renames.crates.get(found[0], found[0])
+
+        return self.crate.sub(new_name, text) if self.crate else text
 
     # ---- imports
 

@@ -106,6 +106,7 @@ class Workspace:
 
     def __init__(self, top, crates):
         self.top, self.crates, self.files = pathlib.Path(top), list(crates), {}
+        self.listed = set(self.crates)
         for crate in self.crates:
             folder = self.top / "crates" / crate
             for part, ending in (("src", ".rt"), ("specs", ".antt"), ("proofs", ".antt")):
@@ -122,7 +123,7 @@ class Workspace:
         """What a name leads to from a place, as a place further on, and the item that it names, if it is one of ours."""
         kind = node[0] if node else None
         if kind == "library":
-            return (("top", name), ("crate", name)) if name in self.crates else (None, None)
+            return (("top", name), ("crate", name)) if name in self.listed else (None, None)
         if kind == "top":
             return (("part", node[1], name), None) if name in ("specs", "proofs") else (None, None)
         if kind == "part":
@@ -215,7 +216,7 @@ class Workspace:
             return ("rust", file.crate, ()), None
         if name in ("super", "self"):
             return ("rust", file.crate, file.steps[: len(file.steps) - (name == "super")]), None
-        if name in self.crates and name not in file.items:
+        if name in self.listed and name not in file.items:
             return ("rust", name, ()), ("crate", name)
         return None, None
 
