@@ -1,7 +1,7 @@
 #!/usr/bin/env python3
 """Gives crates, modules, definitions and functions other names, in all that names them.
 
-Usage: tools/rename.py --map FILE [--map FILE ..] [--root FOLDER] [--skip] [--check | --inverse | --wrap]
+Usage: tools/rename.py --map FILE [--map FILE ..] [--root FOLDER] [--skip] [--check | --inverse | --wrap | --mend]
 
 The maps are as tools/renaming.py describes. A name is changed where it is that item, by the imports of each file; an edit
 is read in the scope of the source that it edits, a document by the crates that it names. A second run changes nothing.
@@ -10,6 +10,7 @@ is read in the scope of the source that it edits, a document by the crates that 
   --skip     passes over lines whose item isn't there, and lists them
   --inverse  prints the map that takes the names back
   --wrap     changes no name, and wraps the lines of definitions, proofs and comments that are too long
+  --mend     changes no name, and mends edits whose texts `rt fmt` has laid out otherwise
 """
 import argparse
 import os
@@ -19,6 +20,7 @@ import sys
 
 sys.dont_write_bytecode = True
 import crates
+from mending import mend_all
 from renaming import Renames, read_map
 from rewriting import FILE_PATH, Rewriter, applied
 from scopes import Workspace
@@ -123,7 +125,7 @@ def paragraphs(text):
 def document(rewriter, mover, path, text):
     """The new text of a document or script: names by the crates that the paragraph or the path names."""
     own = path.parts[1] if path.parts[0] in ("crates", "refusals") and len(path.parts) > 2 else None
-    found = []
+    found, rewriter.document = [], str(path)
     for paragraph in paragraphs(text) if path.suffix == ".md" else [text]:
         crates_named = named_crates(rewriter, paragraph) or [own]
         paragraph = applied(paragraph, rewriter.in_prose(paragraph, 0, None, tuple(crates_named)))
@@ -151,7 +153,7 @@ def new_text(rewriter, mover, top, path):
         text = (top / path).read_text(encoding="utf-8")
     except UnicodeDecodeError:
         return None
-    if path.suffix not in PROSE and len(text) > LONG:
+    if str(path) == "docs/MAP.md" or path.suffix not in PROSE and len(text) > LONG:
         # (made texts, as tables and pictures, name crates alone)
         return rewriter.with_crates(text)
     if path.suffix == ".edit":
@@ -163,13 +165,19 @@ def new_text(rewriter, mover, top, path):
     return document(rewriter, mover, path, text)
 
 
-def rename(rewriter, top):
-    """Writes all files anew, each where it goes; gives how many changed and how many moved."""
-    mover, written = Mover(rewriter), {}
+def prepared(rewriter, top):
+    """The rewriter, with the files by their paths, and with what calls what: its goals have names of those."""
     rewriter.sources = {str(file.path.relative_to(top)): file for file in rewriter.workspace.files.values()}
-    # (sources first: their calls give the names of goals)
-    paths = sorted(files_of(top), key=lambda path: (path.suffix != ".rt", str(path)))
-    for path in paths:
+    for file in rewriter.workspace.files.values():
+        if file.ending == ".rt":
+            rewriter.rewritten(file)
+    return rewriter
+
+
+def rename(rewriter, top):
+    """The new text of each file, and where it goes."""
+    mover, written = Mover(prepared(rewriter, top)), {}
+    for path in files_of(top):
         written[path] = new_text(rewriter, mover, top, path), mover.moved(path)
     return written
 
@@ -203,7 +211,7 @@ def options():
     parser.add_argument("--root", default=crates.TOP, type=pathlib.Path)
     parser.add_argument("--skip", action="store_true")
     mode = parser.add_mutually_exclusive_group()
-    for name in ("--check", "--inverse", "--wrap"):
+    for name in ("--check", "--inverse", "--wrap", "--mend"):
         mode.add_argument(name, action="store_true")
     return parser.parse_args()
 
@@ -213,6 +221,8 @@ def main():
     top = args.root.resolve()
     if args.wrap:
         return print(*wrap_all(top, files_of(top)), sep="\n")
+    if args.mend:
+        return print(*mend_all(top, files_of(top)), sep="\n")
     renames = Renames(Workspace(top, crates.listed(top)), [line for path in args.map for line in read_map(path)])
     if args.inverse:
         return print(*renames.inverse(), sep="\n")

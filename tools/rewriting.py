@@ -54,7 +54,7 @@ class Rewriter:
     def __init__(self, renames):
         self.renames, self.workspace = renames, renames.workspace
         self.called = collections.defaultdict(dict)
-        self.notes = []
+        self.notes, self.document, self.done = [], "", {}
         fronts = sorted({name.partition("_")[0] for name in renames.crates})
         self.crate = re.compile(rf"\b(?:{'|'.join(fronts)})_\w+") if fronts else None
         self.methods = {item[-1]: new for item, new in renames.new.items() if item[0] == "method"}
@@ -147,7 +147,7 @@ class Rewriter:
         return [(start, end) for start, end in zip(starts or [0], ends)]
 
     def definitions(self, file):
-        """The new text of a file of definitions or proofs."""
+        """The changes in a file of definitions or proofs."""
         scope, changes, taken = self.workspace.scope(file, True), [], []
         contexts = self.contexts(file)
         for item in file.imports:
@@ -166,7 +166,7 @@ class Rewriter:
             for name in skipped:
                 self.notes.append(f"{file.path.relative_to(self.workspace.top)}: {name} is bound: {text.split(' :')[0].strip()[-60:]}")
             changes += self.in_terms(text, start, scope, contexts, skipped)
-        return self.finished(file, changes)
+        return changes
 
     def note_captures(self, file, scope, wanted):
         """Notes where a new name is another thing's in the file already."""
@@ -281,6 +281,10 @@ class Rewriter:
             for name, new in names.items():
                 for found in re.finditer(rf"(?<![\w.]){name}\b(?!\s*(?:\(|::))", file.bare[head.end() : end]):
                     yield head.end() + found.start(), head.end() + found.end(), new
+                # (the comment above it names it in backquotes)
+                above = file.text.rfind("\n\n", 0, head.start()) + 1
+                for found in re.finditer(rf"(?<=`){name}(?=`)", file.text[above : head.start()]):
+                    yield above + found.start(), above + found.end(), new
 
     def finished(self, file, changes):
         """The text with the changes, with new names in comments, and of crates."""
@@ -314,14 +318,15 @@ class Rewriter:
         for near in ({it: new for it, new in items.items() if it[1] in crates}, items):
             if near and len(set(near.values())) == 1:
                 return next(iter(near.values()))
-        self.notes.append(f"{file.path.relative_to(self.workspace.top) if file else 'a document'}: `{name}` may be several")
+        self.notes.append(f"{file.path.relative_to(self.workspace.top) if file else self.document}: `{name}` may be several")
         return None
 
     def rewritten(self, file):
         """The new text of a source or a file of definitions."""
-        if not self.renames.new and not self.renames.params:
-            return self.with_crates(file.text)
-        return self.finished(file, self.source(file)) if file.ending == ".rt" else self.definitions(file)
+        if file not in self.done:
+            changes = self.source(file) if file.ending == ".rt" else self.definitions(file)
+            self.done[file] = self.finished(file, changes)
+        return self.done[file]
 
     def piece(self, file, text):
         """The new text of a piece of a source, as an edit quotes it."""
