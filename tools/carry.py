@@ -3,10 +3,10 @@
 
 Usage: tools/carry.py OLD --map FILE [--map FILE ..] [--draw FILE] [--seed TEXT]
 
-OLD is the tree before. Run it in the tree after, with its edits mended. A line of OLD's refusals/seen is taken over if its
-sums are those of OLD, the edit is what the maps make of the old one, and so is each file of its crate, but for layout,
-comments and the order of imports. If a crate below differs otherwise, the edit waits for its turn. One in ten of those that
-are taken over is drawn at random, and its path is written to the file (`drawn` without --draw): refusals/run judges them.
+OLD is the tree before. Run it in the tree after, with its edits mended. A line of OLD's refusals/seen is carried over if
+its sums are those of OLD, and each file of the edit's crate is what the maps make of the old file, except layout, comments
+and the order of imports. If a crate below differs otherwise, the edit waits for its turn. One in ten of the lines is
+drawn at random, and the path of its edit is written to the file (`drawn` without --draw), for refusals/run to judge.
 """
 import argparse
 import pathlib
@@ -35,7 +35,8 @@ def plain(text, ending):
     names = sorted(leaf for item in ITEMS[ending].finditer(bare) for leaf in leaves_of(" ".join(item[4].split())))
     rest = ITEMS[ending].sub("", bare)
     # (a longer line gets commas and braces, which say nothing)
-    return names, sorted(re.findall(r"^\s*(?:pub )?mod \w+;?", rest, re.M)), re.sub(r"[\s,;{}]|^\s*(?:pub )?mod \w+;?", "", rest)
+    modules = re.compile(r"^\s*(?:pub )?mod \w+;?", re.M)
+    return names, sorted(modules.findall(rest)), re.sub(r"[\s,;{}]", "", modules.sub("", rest))
 
 
 def without_comments(text, ending):

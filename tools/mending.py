@@ -86,6 +86,10 @@ def mended(edit, sources):
             if pair is None:
                 return None
             texts[file] = texts[file].replace(*pair)
+            if pair == (old, new):
+                lines += [f"old: {old}", line]
+                old = None
+                continue
             lines += [f"old: {pair[0]}", f"new: {pair[1]}"]
             old = None
         else:

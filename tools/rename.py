@@ -1,15 +1,15 @@
 #!/usr/bin/env python3
 """Gives crates, modules, definitions and functions other names, in all that names them.
 
-Usage: tools/rename.py --map FILE [--map FILE ..] [--root FOLDER] [--skip] [--check | --inverse | --wrap | --mend]
+Usage: tools/rename.py --map FILE [--map FILE ..] [--root FOLDER] [--skip] [--wrap] [--check | --inverse | --mend]
 
-The maps are as tools/renaming.py describes. A name is changed where it is that item, by the imports of each file; an edit
-is read in the scope of the source that it edits, a document by the crates that it names. A second run changes nothing.
+tools/renaming.py describes the maps. A name is changed if it is that item, by the imports of its file. An edit is read in
+the scope of the source that it edits, and a document by the crates that it names. A second run changes nothing.
 
   --check    changes nothing; lists what is wrong with the maps, and names that may be meant otherwise
   --skip     passes over lines whose item isn't there, and lists them
   --inverse  prints the map that takes the names back
-  --wrap     changes no name, and wraps the lines of definitions, proofs and comments that are too long
+  --wrap     breaks the lines of definitions, proofs and comments that get too long by their new names
   --mend     changes no name, and mends edits whose texts `rt fmt` has laid out otherwise
 """
 import argparse
@@ -24,7 +24,7 @@ from mending import mend_all
 from renaming import Renames, read_map
 from rewriting import FILE_PATH, Rewriter, applied
 from scopes import Workspace
-from wrapping import wrap_all
+from wrapping import wrap
 
 LEFT_OUT = {".git", "out", "target", "__pycache__", "node_modules"}
 # What is made, or carried over by tools/carry.py, and maps.
@@ -137,8 +137,8 @@ def list_line(rewriter, mover, line):
     """A line of tools/lint.list: of a name in two crates no line stands any more."""
     kind, _, rest = line.partition(" ")
     if kind == "function":
-        crate, *steps = rest.split("::")
-        return f"function {rewriter.renames.crates.get(crate, crate)}::{rewriter.moved_function(crate, '::'.join(steps))}"
+        crate, _, steps = rest.partition("::")
+        return f"function {rewriter.renames.crates.get(crate, crate)}::{rewriter.moved_function(crate, steps)}"
     if kind == "name":
         return line if rest.split()[0] not in rewriter.renames.names else None
     return rewriter.with_crates(mover.in_text(line))
@@ -210,8 +210,9 @@ def options():
     parser.add_argument("--map", action="append", default=[])
     parser.add_argument("--root", default=crates.TOP, type=pathlib.Path)
     parser.add_argument("--skip", action="store_true")
+    parser.add_argument("--wrap", action="store_true")
     mode = parser.add_mutually_exclusive_group()
-    for name in ("--check", "--inverse", "--wrap", "--mend"):
+    for name in ("--check", "--inverse", "--mend"):
         mode.add_argument(name, action="store_true")
     return parser.parse_args()
 
@@ -219,8 +220,6 @@ def options():
 def main():
     args = options()
     top = args.root.resolve()
-    if args.wrap:
-        return print(*wrap_all(top, files_of(top)), sep="\n")
     if args.mend:
         return print(*mend_all(top, files_of(top)), sep="\n")
     renames = Renames(Workspace(top, crates.listed(top)), [line for path in args.map for line in read_map(path)])
@@ -237,7 +236,12 @@ def main():
     if faults or gone and not args.skip:
         sys.exit("\n".join([*faults, *gone]))
     print(*gone, sep="\n", end="\n" * bool(gone))
-    changed, moved = write(top, rename(rewriter, top))
+    written = rename(rewriter, top)
+    if args.wrap:
+        for name, file in rewriter.sources.items():
+            text, new = written[pathlib.Path(name)]
+            written[pathlib.Path(name)] = wrap(text, file.ending, file.text), new
+    changed, moved = write(top, written)
     print(f"{len(renames.new)} names; {changed} files changed, {moved} moved")
 
 

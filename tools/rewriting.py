@@ -14,9 +14,11 @@ PATH = re.compile(r"(?<!\w)(?<!::)(?:(?<!\.)|(?<=\.\.))[A-Za-z_]\w*(?:\s*::\s*[A
 METHOD_CALL = re.compile(r"(?<=(?<!\.)\.)([a-z_]\w*)(?=\s*(?:\(|::<))")
 CLAUSE = re.compile(r"\b(?:requires|ensures|invariant|decreases|ghost(?! use))\b[^{};]*\{|#!?\[tactic\(")
 QUOTED = re.compile(r"`([^`\n]+)`")
+WORDS = re.compile(r"\w+")
 WORD = re.compile(r"[A-Za-z_◌][\w'◌-]*")
 FILE_PATH = re.compile(r"[\w.*+<>-]+(?:/[\w.*+<>-]+)+")
-CLOSED = {"{": "}", "(": ")", "[": "]"}
+START = re.compile(r"^(?=\S)|^(?=  (?:pub |abbrev )*[^\s:(){}]+ : )", re.M)
+BRACKET = re.compile(r"[{}()\[\]]")
 
 
 def applied(text, changes):
@@ -32,20 +34,18 @@ def applied(text, changes):
 def closing(text, opening):
     """Where the bracket that opens at a place is closed."""
     depth = 0
-    for at in range(opening, len(text)):
-        if text[at] in "{([":
-            depth += 1
-        elif text[at] in "})]":
-            depth -= 1
-            if depth == 0:
-                return at
+    for found in BRACKET.finditer(text, opening):
+        depth += 1 if found[0] in "{([" else -1
+        if depth == 0:
+            return found.start()
     return len(text)
 
 
 def binds(text, name):
     """Whether a definition's text binds the name itself, so that it isn't the item of that name there."""
     word = rf"(?<![\w'-]){re.escape(name)}(?![\w'-])"
-    return re.search(rf"λ[^.()]*{word}[^.()]*\.|[({{][^(){{}}:,]*{word}[^(){{}}:,]*\s:\s|\blet {word}|{word} ↦", text)
+    group = rf"[({{][^(){{}}:,]*{word}[^(){{}}:,]*\s:\s"
+    return re.search(rf"λ[^.()]*{word}[^.()]*\.|{group}|\blet {word}|{word} ↦", text)
 
 
 class Rewriter:
@@ -55,6 +55,8 @@ class Rewriter:
         self.renames, self.workspace = renames, renames.workspace
         self.called = collections.defaultdict(dict)
         self.notes, self.document, self.done = [], "", {}
+        # (any word of a name that changes, those of parameters and modules too)
+        self.words = {word for name in renames.names for word in WORDS.findall(name)}
         fronts = sorted({name.partition("_")[0] for name in renames.crates})
         self.crate = re.compile(rf"\b(?:{'|'.join(fronts)})_\w+") if fronts else None
         self.methods = {item[-1]: new for item, new in renames.new.items() if item[0] == "method"}
@@ -67,6 +69,10 @@ class Rewriter:
             return found[0] if is_called else self.renames.crates.get(found[0], found[0])
 
         return self.crate.sub(new_name, text) if self.crate else text
+
+    def note(self, file, text):
+        """Notes what a person is to look at."""
+        self.notes.append(f"{file.path.relative_to(self.workspace.top) if file else self.document}: {text}")
 
     # ---- imports
 
@@ -107,6 +113,8 @@ class Rewriter:
     def in_terms(self, bare, offset, scope, contexts=None, skipped=()):
         """The changes in a text of definitions, without those of names that it binds."""
         for found in TOKEN.finditer(bare):
+            if not self.is_near(found[0], contexts):
+                continue
             at, node = found.start(), None
             for place, name in enumerate(found[0].split(".")):
                 start = offset + at
@@ -126,6 +134,11 @@ class Rewriter:
                     if new != name:
                         yield start, start + len(name), new
 
+    def is_near(self, token, contexts):
+        """Whether a token has a name that is given another one."""
+        words = WORDS.findall(token)
+        return not self.words.isdisjoint(words) or bool(contexts) and not contexts.keys().isdisjoint(words)
+
     @staticmethod
     def is_label(bare, found, name):
         """Whether the name is a field's, where a record is made."""
@@ -141,15 +154,17 @@ class Rewriter:
         return "-".join("+".join(contexts.get(it, it) for it in piece.split("+")) for piece in name.split("-"))
 
     def blocks(self, file):
-        """The parts of a file of definitions in which a name is bound or isn't: each a definition with its equations."""
-        starts = [found.start() for found in re.finditer(r"^(?=\S)|^(?=  (?:pub |abbrev )*[^\s:(){}]+ : )", file.bare, re.M)]
+        """The definitions of a file, with their equations: a name is bound in a whole one."""
+        starts = [found.start() for found in START.finditer(file.bare)]
         ends = [*starts[1:], len(file.bare)]
         return [(start, end) for start, end in zip(starts or [0], ends)]
 
     def definitions(self, file):
         """The changes in a file of definitions or proofs."""
-        scope, changes, taken = self.workspace.scope(file, True), [], []
         contexts = self.contexts(file)
+        if not contexts and self.words.isdisjoint(WORDS.findall(file.bare)):
+            return []
+        scope, changes, taken = self.workspace.scope(file, True), [], []
         for item in file.imports:
             taken.append((item.start(), item.end()))
             changes += self.in_definitions(item[4], item.start(4))
@@ -160,11 +175,14 @@ class Rewriter:
         for start, end in taken:
             body[start:end] = SPACE.sub(" ", file.bare[start:end])
         body = "".join(body)
-        for start, end in self.blocks(file):
+        near = self.words | contexts.keys()
+        for start, end in self.blocks(file) if not near.isdisjoint(WORDS.findall(body)) else ():
             text = body[start:end]
+            if near.isdisjoint(WORDS.findall(text)):
+                continue
             skipped = {name for name in wanted if name in text and binds(text, name)}
             for name in skipped:
-                self.notes.append(f"{file.path.relative_to(self.workspace.top)}: {name} is bound: {text.split(' :')[0].strip()[-60:]}")
+                self.note(file, f"{name} is bound: {text.split(' :')[0].strip()[-60:]}")
             changes += self.in_terms(text, start, scope, contexts, skipped)
         return changes
 
@@ -175,7 +193,7 @@ class Rewriter:
             if new != name and re.search(rf"(?<![\w'.-]){re.escape(new)}(?![\w'-])", file.bare):
                 other = scope.get(new, (None, None))[1]
                 if other not in self.renames.new:
-                    self.notes.append(f"{file.path.relative_to(self.workspace.top)}: {name} -> {new}, which is a name there")
+                    self.note(file, f"{name} -> {new}, which is a name there")
 
     def contexts(self, file):
         """The new names of what is called by the functions whose goals a proof is about."""
@@ -211,16 +229,20 @@ class Rewriter:
         bare, changes = file.bare if bare is None else bare, []
         body = bare
         for item in ITEMS[".rt"].finditer(bare) if is_whole else ():
-            at, inside = item.start(4), item[4]
+            at, inside = item.start(4), "" if self.words.isdisjoint(WORDS.findall(item[4])) else item[4]
             is_ghost = item[3].startswith("ghost")
             changes += self.in_definitions(inside, at) if is_ghost else self.in_sources(file, inside, at)
             body = body[: item.start()] + SPACE.sub(" ", item[0]) + body[item.end() :]
         ghost = self.workspace.scope(file, True)
+        wanted = {name for name, (_, item) in ghost.items() if item in self.renames.new}
+        pieces, last = [], 0
         for start, end in self.regions(body):
             text = body[start:end]
-            skipped = {name for name, (_, item) in ghost.items() if item in self.renames.new and name in text and binds(text, name)}
+            skipped = {name for name in wanted if name in text and binds(text, name)}
             changes += self.in_terms(text, start, ghost, None, skipped)
-            body = body[:start] + SPACE.sub(" ", text) + body[end:]
+            pieces += [body[last:start], SPACE.sub(" ", text)]
+            last = end
+        body = "".join(pieces) + body[last:]
         heads = [(found.start(), found[2]) for found in FUNCTION.finditer(body)] if is_whole else []
         changes += self.in_code(file, body, heads, is_whole)
         return changes
@@ -229,6 +251,8 @@ class Rewriter:
         """The changes in what is code, with a note of which function calls what."""
         scope = self.workspace.scope(file, False)
         for found in PATH.finditer(body):
+            if self.words.isdisjoint(WORDS.findall(found[0])):
+                continue
             at, node, item = found.start(), None, None
             for place, part in enumerate(re.split(r"(\s*::\s*)", found[0])):
                 if place % 2 == 0:
@@ -261,9 +285,10 @@ class Rewriter:
         kind = self.workspace.file(item[1], "src", item[2]).items.get(part) if item[0] == "item" else None
         if kind != "fn" or behind.startswith(("(", "::", "<")):
             return True
-        is_bound = re.search(rf"\blet (?:mut )?{part}\b|\b{part}:(?!:)|\|{part}\||\((?:mut )?{part}\)|for {part} in", file.bare)
+        bound = rf"\blet (?:mut )?{part}\b|\b{part}:(?!:)|\|{part}\||\((?:mut )?{part}\)|for {part} in"
+        is_bound = re.search(bound, file.bare)
         if is_bound:
-            self.notes.append(f"{file.path.relative_to(self.workspace.top)}: {part} is a variable there, too")
+            self.note(file, f"{part} is a variable there, too")
         return not is_bound
 
     def note_call(self, file, heads, at, old, new):
@@ -318,7 +343,7 @@ class Rewriter:
         for near in ({it: new for it, new in items.items() if it[1] in crates}, items):
             if near and len(set(near.values())) == 1:
                 return next(iter(near.values()))
-        self.notes.append(f"{file.path.relative_to(self.workspace.top) if file else self.document}: `{name}` may be several")
+        self.note(file, f"`{name}` may be several")
         return None
 
     def rewritten(self, file):
@@ -336,12 +361,14 @@ class Rewriter:
         seen = {start for start, _, _ in changes}
         at = file.text.find(text)
         inside = any(start <= at < end for start, end in self.regions(file.bare)) if at >= 0 else False
-        only = {name: it for name, it in self.workspace.scope(file, True).items() if inside or name not in self.workspace.scope(file, False)}
+        ghost, code = self.workspace.scope(file, True), self.workspace.scope(file, False)
+        only = {name: it for name, it in ghost.items() if inside or name not in code}
         changes += [it for it in self.in_terms(bare, 0, only) if it[0] not in seen]
         for (crate, steps, function), names in self.renames.params.items():
             if (crate, steps) == (file.crate, file.steps) and self.is_within(file, at, function):
                 for name, new in names.items():
-                    changes += [(it.start(), it.end(), new) for it in re.finditer(rf"(?<![\w.]){name}\b(?!\s*(?:\(|::))", bare)]
+                    uses = re.finditer(rf"(?<![\w.]){name}\b(?!\s*(?:\(|::))", bare)
+                    changes += [(it.start(), it.end(), new) for it in uses]
         return self.with_crates(applied(text, changes))
 
     @staticmethod
@@ -372,7 +399,8 @@ class Rewriter:
         return "src/" + "/".join(self.module_names(crate, "src", steps)) + ".rt"
 
     def module_names(self, crate, part, steps):
-        return [self.renames.new.get(("module", crate, part, tuple(steps[: end + 1])), name) for end, name in enumerate(steps)]
+        modules = [("module", crate, part, tuple(steps[:end])) for end in range(1, len(steps) + 1)]
+        return [self.renames.new.get(module, name) for module, name in zip(modules, steps)]
 
     def moved_function(self, crate, path):
         """The new path of a function, as a line `at:` has it."""

@@ -1,7 +1,7 @@
 """What the names in the files of crates stand for: the modules of a workspace, their items, and the scope of each file.
 
-An item is a tuple: ("crate", crate), ("module", crate, part, path), ("def", crate, part, path, name) of specs/ or proofs/,
-("item", crate, path, name) of src/, or ("method", crate, path, type, name). It goes by the texts alone.
+An item is a tuple: ("crate", crate), ("module", crate, part, path), ("def", crate, part, path, name) of specs/ or
+proofs/, ("item", crate, path, name) of src/, or ("method", crate, path, type, name). It goes by the texts alone.
 """
 import functools
 import pathlib
@@ -15,7 +15,9 @@ HIDDEN = {
     ".antt": re.compile(rf"{TEXTS}|\{{-.*?-\}}|(?<!\S)--[^\n]*", re.DOTALL),
 }
 SPACE = re.compile(r"[^\n]")
-OPENER = re.compile(r"(?:(?:pub|abbrev|unfoldable|private) )*(record|data|module|mutual|abbrev mutual)\b(?: (?:pub )?(\S+))?")
+OPENER = re.compile(
+    r"(?:(?:pub|abbrev|unfoldable|private) )*(record|data|module|mutual|abbrev mutual)\b(?: (?:pub )?(\S+))?"
+)
 SIGNATURE = re.compile(r"(?:(?:pub|abbrev|unfoldable|private) )*([^\s:(){}]+) :(?=\s|$)")
 ITEM = re.compile(
     r"^(?:pub(?:\([\w:]+\))? )?(?:(?:const|unsafe|final|extern \"C\") )*"
@@ -63,7 +65,7 @@ class File:
             self.methods.setdefault(found[1], set()).add(owner)
 
     def add_definitions(self):
-        """What stands at the top of the file, or in a section: of a record its name alone, of a `data` its cases too."""
+        """Takes what is at the top of the file or in a section: of a record its name, of a `data` its cases too."""
         around = []
         for line in self.bare.split("\n"):
             if not line.strip():
@@ -93,12 +95,15 @@ class File:
             return ("item", self.crate, self.steps, name)
         return ("def", self.crate, self.part, self.steps, name)
 
+    @functools.lru_cache(maxsize=None)
     def leaves(self, is_ghost):
-        """Each path that the file imports, with the local name, and whether it is passed on."""
+        """Each path that the file imports: with the local name, and whether it is public, and whether another one."""
+        found = []
         for item in self.imports:
             if (self.ending == ".antt" or item[3].startswith("ghost")) == is_ghost:
                 for leaf in leaves_of(" ".join(item[4].split())):
-                    yield leaf.partition(" as ")[0].strip(), name_of(leaf), bool(item[2]), " as " in leaf
+                    found.append((leaf.partition(" as ")[0].strip(), name_of(leaf), bool(item[2]), " as " in leaf))
+        return found
 
 
 class Workspace:
@@ -106,13 +111,15 @@ class Workspace:
 
     def __init__(self, top, crates):
         self.top, self.crates, self.files = pathlib.Path(top), list(crates), {}
-        self.listed = set(self.crates)
+        self.listed, self.modules = set(self.crates), {}
         for crate in self.crates:
             folder = self.top / "crates" / crate
             for part, ending in (("src", ".rt"), ("specs", ".antt"), ("proofs", ".antt")):
                 for path in sorted((folder / part).rglob(f"*{ending}")):
                     file = File(crate, folder, path)
                     self.files[crate, part, file.steps] = file
+                    if part == "src" and file.steps:
+                        self.modules.setdefault((crate, file.steps[:-1]), []).append(file.steps)
 
     def file(self, crate, part, steps):
         return self.files.get((crate, part, tuple(steps)))
@@ -120,7 +127,7 @@ class Workspace:
     # ---- paths of definitions
 
     def step(self, node, name):
-        """What a name leads to from a place, as a place further on, and the item that it names, if it is one of ours."""
+        """What a name leads to from a place: a place further on, and the item that it names."""
         kind = node[0] if node else None
         if kind == "library":
             return (("top", name), ("crate", name)) if name in self.listed else (None, None)
@@ -239,7 +246,7 @@ class Workspace:
 
     @functools.lru_cache(maxsize=None)
     def scope(self, file, is_ghost):
-        """The items that a file's names stand for, and the places that they lead to; names given by `as` are no items."""
+        """The places and the items that a file's names lead to; names given by `as` are no items."""
         found = {}
         for path, local, _, has_alias in file.leaves(is_ghost):
             if local == "*":
@@ -251,10 +258,8 @@ class Workspace:
             for name in file.items:
                 found[name] = (None if is_ghost else ("type", file.crate, file.steps, name)), file.own(name)
         if not is_ghost:
-            for other in self.files.values():
-                if (other.crate, other.part, other.steps[:-1]) == (file.crate, "src", file.steps) and other.steps:
-                    module = other.steps
-                    found[module[-1]] = ("rust", file.crate, module), ("module", file.crate, "src", module)
+            for module in self.modules.get((file.crate, file.steps), ()):
+                found[module[-1]] = ("rust", file.crate, module), ("module", file.crate, "src", module)
         return found
 
     def all_of(self, node):

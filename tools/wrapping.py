@@ -1,4 +1,4 @@
-"""Wraps lines that are longer than they may be, in files of definitions and proofs, in sources' comments and clauses."""
+"""Breaks lines that are longer than they may be, in definitions, proofs and comments."""
 import re
 
 COLUMNS = 120
@@ -9,6 +9,7 @@ def wrapped_comment(lines, at):
     """The lines of a paragraph of comments from a line that is too long on, and where it ends."""
     head = COMMENT.match(lines[at])
     front, end = head[0], at
+    # (a paragraph goes on while its lines are filled)
     while end < len(lines) and lines[end].startswith(front) and (end == at or len(lines[end - 1]) > COLUMNS - 25):
         end += 1
     words = " ".join(line[len(front) :] for line in lines[at:end]).split(" ")
@@ -44,32 +45,19 @@ def broken(line):
     return [line]
 
 
-def wrap(text, ending):
-    """The text with no line that is too long, as far as one can be broken."""
-    lines, found, at = text.split("\n"), [], 0
+def wrap(text, ending, old):
+    """The text with the lines broken that got too long: those of the old text, line by line, were short enough."""
+    lines, before, found, at = text.split("\n"), old.split("\n"), [], 0
     while at < len(lines):
-        line = lines[at]
-        if len(line) <= COLUMNS:
+        line, was = lines[at], before[at] if len(before) == len(lines) else ""
+        if len(line) <= COLUMNS or len(was) > COLUMNS:
             found.append(line)
             at += 1
         elif COMMENT.match(line):
             several, at = wrapped_comment(lines, at)
             found += several
-        elif re.match(r" *(?:pub )?(?:ghost )?use [^{]*\{[^{}]*\};?$", line):
-            found += split_import(line)
-            at += 1
         else:
-            found += broken(line) if ending == ".antt" else [line]
+            is_import = re.match(r" *(?:pub )?(?:ghost )?use [^{]*\{[^{}]*\};?$", line)
+            found += split_import(line) if is_import else broken(line) if ending == ".antt" else [line]
             at += 1
     return "\n".join(found)
-
-
-def wrap_all(top, paths):
-    """Wraps the files of the crates, and gives those that changed."""
-    for path in paths:
-        if path.parts[0] == "crates" and path.suffix in (".rt", ".antt"):
-            text = (top / path).read_text(encoding="utf-8")
-            new = wrap(text, path.suffix)
-            if new != text:
-                (top / path).write_text(new, encoding="utf-8")
-                yield path
