@@ -3,8 +3,8 @@
 
 Usage: tools/rename.py --map FILE [--map FILE ..] [--root FOLDER] [--skip] [--wrap] [--check | --inverse | --mend]
 
-tools/renaming.py describes the maps. A name is changed if it is that item, by the imports of its file. An edit is read in
-the scope of the source that it edits, and a document by the crates that it names. A second run changes nothing.
+tools/renaming.py describes the maps. A name is changed if it is that item, by the imports of its file. An edit is read
+in the scope of the source that it edits, and a document by the crates that it names. A second run changes nothing.
 
   --check    changes nothing; lists what is wrong with the maps, and names that may be meant otherwise
   --skip     passes over lines whose item isn't there, and lists them

@@ -14,7 +14,7 @@ import re
 from typing import NamedTuple
 
 KINDS = {"crate": 2, "module": 4, "def": 5, "item": 4, "method": 5, "param": 5}
-KEEP = ("gix_index",)
+FRONT = "gix_index"
 
 
 class Line(NamedTuple):
@@ -100,8 +100,36 @@ class Renames:
     def check(self):
         """What is wrong with the maps: names that are taken, and names that are no target."""
         yield from self.faults
+        for item in self.new.keys() & self.public():
+            yield f"{self.where(item)}: gix_index has it under this name"
         for item, new in self.new.items():
             yield from (f"{self.where(item)}: {fault}" for fault in self.faults_of(item, new))
+
+    def public(self):
+        """The items that gix_index has under their own names: those are upstream's, and stay."""
+        found = set()
+        for (crate, part, _), file in self.workspace.files.items():
+            if crate == FRONT and part == "src":
+                for path, _, is_public, has_alias in file.leaves(False):
+                    node, item = self.workspace.source(file, path) if is_public else (None, None)
+                    found |= {item} if item and not has_alias else set()
+                    found |= self.within(node) if node and node[0] == "rust" else set()
+                found |= {file.own(name) for name in file.items if self.is_open(file, name)}
+        return found
+
+    def within(self, node):
+        """The public items of a module, and of those in it."""
+        found = set()
+        for (crate, part, steps), file in self.workspace.files.items():
+            if crate == node[1] and part == "src" and steps[: len(node[2])] == node[2]:
+                found |= {file.own(name) for name in file.items if self.is_open(file, name)}
+                found |= {("module", crate, part, steps)} if steps != node[2] else set()
+        return found
+
+    @staticmethod
+    def is_open(file, name):
+        """Whether a source has a public item of that name."""
+        return re.search(rf"^pub (?:\w+ )*{name}\b", file.bare, re.M) is not None
 
     def where(self, item):
         return next((line.where for line in self.lines if self.found(line.item) == item), str(item))
