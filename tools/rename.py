@@ -230,6 +230,7 @@ def main():
     rewriter = Rewriter(renames)
     if args.check:
         rename(rewriter, top)
+        faults += renames.twins()
         print(*faults, *gone, *sorted(set(rewriter.notes)), sep="\n")
         print(f"{len(faults) + len(gone)} faults, {len(set(rewriter.notes))} to be looked at")
         return sys.exit(1 if faults or gone else 0)

@@ -98,7 +98,7 @@ class Renames:
         return file is not None and re.search(rf"\b{item[4]}\b", file.bare) is not None
 
     def check(self):
-        """What is wrong with the maps: names that are taken, and names that are no target."""
+        """What is wrong with the maps: names that are taken, and names that are not to change."""
         yield from self.faults
         for item in self.new.keys() & self.public():
             yield f"{self.where(item)}: gix_index has it under this name"
@@ -143,19 +143,22 @@ class Renames:
         if item[0] in ("def", "item"):
             if new in file.items and file.own(new) not in self.new:
                 yield f"its file has {new} already"
-            modules = [each[2][-1] for each in self.workspace.files if each[0] == item[1] and each[2]]
-            if item[0] == "item" and any(new.lower() == each.lower() for each in modules if each):
-                yield f"{new} is a module's name but for case"
-            if any(new != each and new.lower() == each.lower() for each in file.items):
-                yield f"{new} differs from a name of its file in case alone"
+        if item[0] == "item":
+            others = {*file.items, *(steps[-1] for steps in self.workspace.modules.get(item[1:3], ()))}
+            if any(new.lower() == each.lower() for each in others - {name_of(item)}):
+                yield f"{new} is a name of its module but for case"
         if item[0] == "method":
             owners = {each[1:4] for each in self.by_name[item[-1]] if each[0] == "method" and each not in self.new}
             if owners:
                 yield f"other types have a method {item[-1]}: {sorted(owners)[0]}"
         if item[0] == "module" and self.workspace.file(item[1], item[2], (*item[3][:-1], new)):
             yield f"there is a module {new}"
-        if item[0] == "def" and item[2] == "specs":
-            yield from self.twins_of(item, new)
+
+    def twins(self):
+        """The new names of definitions that another crate has too."""
+        for item, new in self.new.items():
+            if item[0] == "def" and item[2] == "specs":
+                yield from (f"{self.where(item)}: {fault}" for fault in self.twins_of(item, new))
 
     def twins_of(self, item, new):
         """The definitions of other crates that would have the new name too."""

@@ -17,6 +17,7 @@ QUOTED = re.compile(r"`([^`\n]+)`")
 WORDS = re.compile(r"\w+")
 WORD = re.compile(r"[A-Za-z_◌][\w'◌-]*")
 FILE_PATH = re.compile(r"[\w.*+<>-]+(?:/[\w.*+<>-]+)+")
+NAMED = re.compile(r"[\w:]+(?:\(\))?")
 START = re.compile(r"^(?=\S)|^(?=  (?:pub |abbrev )*[^\s:(){}]+ : )", re.M)
 BRACKET = re.compile(r"[{}()\[\]]")
 
@@ -56,6 +57,7 @@ class Rewriter:
         self.called = collections.defaultdict(dict)
         self.notes, self.document, self.done = [], "", {}
         # (any word of a name that changes, those of parameters and modules too)
+        self.definitional = {item[-1] for item in renames.new if item[0] == "def"}
         self.words = {word for name in renames.names for word in WORDS.findall(name)}
         fronts = sorted({name.partition("_")[0] for name in renames.crates})
         self.crate = re.compile(rf"\b(?:{'|'.join(fronts)})_\w+") if fronts else None
@@ -324,8 +326,9 @@ class Rewriter:
     def in_prose(self, text, offset, file=None, crates=()):
         """The changes in what stands in backquotes."""
         for quoted in QUOTED.finditer(text):
+            is_alone = NAMED.fullmatch(quoted[1])
             for word in WORD.finditer(quoted[1]):
-                if word[0] in self.renames.names:
+                if word[0] in self.renames.names and "/" not in quoted[1] and (is_alone or word[0] in self.definitional):
                     new = self.new_name(word[0], file, crates)
                     if new:
                         start = offset + quoted.start(1) + word.start()
