@@ -190,8 +190,12 @@ class Renames:
         path = []
         for end in range(1, len(steps) + 1):
             path.append(self.module_name(item[1], part, steps[:end]))
-        rest = [*item[4:-1]] if item[0] == "def" else [*item[3:-1]] if item[0] in ("method", "param") else []
+        # (a method's type, and a parameter's function, may have a new name too)
+        rest = [self.item_name(item[1:3], name) for name in item[3:-1]] if item[0] in ("method", "param") else []
         return [crate, *parts, "::".join(path) or "-", *rest]
+
+    def item_name(self, module, name):
+        return next((line.new for line in self.lines if line.item == ("item", *module, name)), name)
 
     def module_name(self, crate, part, steps):
         return next((line.new for line in self.lines if line.item == ("module", crate, part, steps)), steps[-1])

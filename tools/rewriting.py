@@ -329,24 +329,29 @@ class Rewriter:
             is_alone = NAMED.fullmatch(quoted[1])
             for word in WORD.finditer(quoted[1]):
                 if word[0] in self.renames.names and "/" not in quoted[1] and (is_alone or word[0] in self.definitional):
-                    new = self.new_name(word[0], file, crates)
+                    front = re.search(r"(\w+)::$", quoted[1][: word.start()])
+                    new = self.new_name(word[0], file, crates, front and front[1])
                     if new:
                         start = offset + quoted.start(1) + word.start()
                         yield start, start + len(word[0]), new
 
-    def new_name(self, name, file, crates):
-        """The new name of what a comment or a document names: by its scope, by its crates, or where all agree."""
-        if file:
+    def new_name(self, name, file, crates, front=None):
+        """The new name of what a comment or a document names: by its scope, by its crates, or if all agree."""
+        if file and not front:
             for is_ghost in (True, False):
                 item = self.workspace.scope(file, is_ghost).get(name, (None, None))[1]
                 if item:
                     return self.renames.new.get(item)
-            crates = (file.crate,)
+        crates = (file.crate,) if file else crates
         items = self.renames.by_name[name]
+        if front:
+            # (behind a module's or a type's name)
+            items = {it: new for it, new in items.items() if it[0] in ("item", "method") and front in (it[-2], *it[2][-1:])}
         for near in ({it: new for it, new in items.items() if it[1] in crates}, items):
             if near and len(set(near.values())) == 1:
                 return next(iter(near.values()))
-        self.note(file, f"`{name}` may be several")
+        if items:
+            self.note(file, f"`{name}` may be several")
         return None
 
     def rewritten(self, file):
