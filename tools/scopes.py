@@ -68,7 +68,7 @@ class File:
         """Takes what is at the top of the file or in a section: of a record its name, of a `data` its cases too."""
         around = []
         for line in self.bare.split("\n"):
-            if not line.strip():
+            if line.strip() in ("", "where"):
                 continue
             indent = len(line) - len(line.lstrip())
             while around and around[-1][0] >= indent:
@@ -146,10 +146,11 @@ class Workspace:
             return ("source", crate, ()), None
         if self.file(crate, part, (name,)):
             return ("file", crate, part, (name,)), ("module", crate, part, (name,))
-        if part == "proofs":
-            return self.step_in_source(("source", crate, ()), name)
         lists = self.file(crate, part, ("Lib",))
-        return self.passed_on(lists, name) if lists else (None, None)
+        found = self.passed_on(lists, name) if lists else (None, None)
+        if part == "proofs" and found == (None, None):
+            return self.step_in_source(("source", crate, ()), name)
+        return found
 
     def passed_on(self, file, name):
         """What a file passes on under a name: a name that it gives itself is no item."""
