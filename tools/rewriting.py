@@ -144,9 +144,9 @@ class Rewriter:
     @staticmethod
     def is_label(bare, found, name):
         """Whether the name is a field's, where a record is made."""
-        return found[0] == name and re.match(r" = ", bare[found.end() : found.end() + 3]) and not (
-            found.start() == 0 or bare[found.start() - 1] == "\n"
-        )
+        is_given = found[0] == name and bare[found.end() : found.end() + 3].rstrip("\n ") == " ="
+        before = bare[max(found.start() - 200, 0) : found.start()]
+        return is_given and re.search(r"(?:[{;]|\n\s+)\s*\Z", before) is not None
 
     @staticmethod
     def in_context(name, place, contexts):
