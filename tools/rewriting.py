@@ -55,7 +55,7 @@ class Rewriter:
     def __init__(self, renames):
         self.renames, self.workspace = renames, renames.workspace
         self.called = collections.defaultdict(dict)
-        self.notes, self.document, self.done = [], "", {}
+        self.notes, self.document, self.done, self.spans = [], "", {}, {}
         # (any word of a name that changes, those of parameters and modules too)
         self.definitional = {item[-1] for item in renames.new if item[0] == "def"}
         self.words = {word for name in renames.names for word in WORDS.findall(name)}
@@ -141,9 +141,10 @@ class Rewriter:
         words = WORDS.findall(token)
         return not self.words.isdisjoint(words) or bool(contexts) and not contexts.keys().isdisjoint(words)
 
-    @staticmethod
-    def is_label(bare, found, name):
-        """Whether the name is a field's, where a record is made."""
+    def is_label(self, bare, found, name):
+        """Whether the name is a field's, where a record is made: an equation begins where the definition does."""
+        if found.start() - bare.rfind("\n", 0, found.start()) - 1 == self.spans.get(name):
+            return False
         is_given = found[0] == name and bare[found.end() : found.end() + 3].rstrip("\n ") == " ="
         before = bare[max(found.start() - 200, 0) : found.start()]
         return is_given and re.search(r"(?:[{;]|\n\s+)\s*\Z", before) is not None
@@ -177,7 +178,7 @@ class Rewriter:
         for start, end in taken:
             body[start:end] = SPACE.sub(" ", file.bare[start:end])
         body = "".join(body)
-        near = self.words | contexts.keys()
+        near, self.spans = self.words | contexts.keys(), file.spans
         for start, end in self.blocks(file) if not near.isdisjoint(WORDS.findall(body)) else ():
             text = body[start:end]
             if near.isdisjoint(WORDS.findall(text)):
@@ -237,7 +238,7 @@ class Rewriter:
             body = body[: item.start()] + SPACE.sub(" ", item[0]) + body[item.end() :]
         ghost = self.workspace.scope(file, True)
         wanted = {name for name, (_, item) in ghost.items() if item in self.renames.new}
-        pieces, last = [], 0
+        pieces, last, self.spans = [], 0, {}
         for start, end in self.regions(body):
             text = body[start:end]
             skipped = {name for name in wanted if name in text and binds(text, name)}
