@@ -5,8 +5,9 @@ Usage: tools/carry.py OLD --map FILE [--map FILE ..] [--draw FILE] [--seed TEXT]
 
 OLD is the tree before. Run it in the tree after, with its edits mended. A line of OLD's refusals/seen is carried over
 if its sums are those of OLD, and each file of the edit's crate is what the maps make of the old file, except layout,
-comments and the order of imports. If a crate below differs otherwise, the edit waits for its turn. One in ten of the lines is
-drawn at random, and the path of its edit is written to the file (`drawn` without --draw), for refusals/run to judge.
+comments and the order of imports. If a crate below differs otherwise, the edit waits for its turn. One in ten of the
+lines is drawn at random, and the path of its edit is written to the file (`drawn` without --draw), for refusals/run to
+judge.
 """
 import argparse
 import pathlib

@@ -327,9 +327,11 @@ class Rewriter:
     def in_prose(self, text, offset, file=None, crates=()):
         """The changes in what stands in backquotes."""
         for quoted in QUOTED.finditer(text):
-            is_alone = NAMED.fullmatch(quoted[1])
+            # (a function is named by itself, a definition in a clause too, and neither in a path)
+            names = self.renames.names if NAMED.fullmatch(quoted[1]) else self.definitional
+            names = () if "/" in quoted[1] else names
             for word in WORD.finditer(quoted[1]):
-                if word[0] in self.renames.names and "/" not in quoted[1] and (is_alone or word[0] in self.definitional):
+                if word[0] in names:
                     front = re.search(r"(\w+)::$", quoted[1][: word.start()])
                     new = self.new_name(word[0], file, crates, front and front[1])
                     if new:
@@ -347,7 +349,8 @@ class Rewriter:
         items = self.renames.by_name[name]
         if front:
             # (behind a module's or a type's name)
-            items = {it: new for it, new in items.items() if it[0] in ("item", "method") and front in (it[-2], *it[2][-1:])}
+            calls = {it: new for it, new in items.items() if it[0] in ("item", "method")}
+            items = {it: new for it, new in calls.items() if front in (it[-2], *it[2][-1:])}
         for near in ({it: new for it, new in items.items() if it[1] in crates}, items):
             if near and len(set(near.values())) == 1:
                 return next(iter(near.values()))
