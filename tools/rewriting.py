@@ -18,6 +18,7 @@ WORDS = re.compile(r"\w+")
 WORD = re.compile(r"[A-Za-z_◌][\w'◌-]*")
 FILE_PATH = re.compile(r"[\w.*+<>-]+(?:/[\w.*+<>-]+)+")
 NAMED = re.compile(r"[\w:]+(?:\(\))?")
+GIVEN = re.compile(r"\b\w+::(?:specs|proofs)(?:::[\w'-]+)+")
 START = re.compile(r"^(?=\S)|^(?=  (?:pub |abbrev )*[^\s:(){}]+ : )", re.M)
 BRACKET = re.compile(r"[{}()\[\]]")
 
@@ -246,9 +247,21 @@ class Rewriter:
             pieces += [body[last:start], SPACE.sub(" ", text)]
             last = end
         body = "".join(pieces) + body[last:]
+        changes += self.in_tactics(file, bare)
         heads = [(found.start(), found[2]) for found in FUNCTION.finditer(body)] if is_whole else []
         changes += self.in_code(file, body, heads, is_whole)
         return changes
+
+    def in_tactics(self, file, bare):
+        """The changes in the definitions and lemmas that tactics are given, as in `crate::specs::FILE::NAME`."""
+        for found in GIVEN.finditer(bare):
+            at, node = found.start(), ("library",)
+            for part in re.split(r"(::)", found[0]):
+                name = file.crate if part == "crate" else part
+                node, item = (node, None) if part == "::" else self.workspace.step(node, name) if node else (None, None)
+                if item in self.renames.new and item[0] != "crate":
+                    yield at, at + len(part), self.renames.new[item]
+                at += len(part)
 
     def in_code(self, file, body, heads, is_whole):
         """The changes in what is code, with a note of which function calls what."""
