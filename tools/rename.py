@@ -134,13 +134,13 @@ def document(rewriter, mover, path, text):
 
 
 def list_line(rewriter, mover, line):
-    """A line of tools/lint.list: of a name in two crates no line stands any more."""
+    """The new text of a line of tools/lint.list; `tools/lint --shrink` takes out what is no longer so."""
     kind, _, rest = line.partition(" ")
     if kind == "function":
         crate, _, steps = rest.partition("::")
         return f"function {rewriter.renames.crates.get(crate, crate)}::{rewriter.moved_function(crate, steps)}"
     if kind == "name":
-        return line if rest.split()[0] not in rewriter.renames.names else None
+        return line
     return rewriter.with_crates(mover.in_text(line))
 
 
@@ -160,8 +160,7 @@ def new_text(rewriter, mover, top, path):
         crate = parts[2] if parts[:2] == ("refusals", "control") else parts[1]
         return rewriter.edit(text, crate)
     if str(path) == "tools/lint.list":
-        lines = [list_line(rewriter, mover, line) for line in text.split("\n")]
-        return "\n".join(line for line in lines if line is not None)
+        return "\n".join(list_line(rewriter, mover, line) for line in text.split("\n"))
     return document(rewriter, mover, path, text)
 
 
