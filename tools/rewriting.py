@@ -118,7 +118,7 @@ class Rewriter:
         for found in TOKEN.finditer(bare):
             if not self.is_near(found[0], contexts):
                 continue
-            at, node = found.start(), None
+            at, node, before = found.start(), None, ""
             for place, name in enumerate(found[0].split(".")):
                 start = offset + at
                 at += len(name) + 1
@@ -132,10 +132,11 @@ class Rewriter:
                     node, item = self.workspace.step(node, name) if node else (None, None)
                 if item in self.renames.new:
                     yield start, start + len(name), self.renames.new[item]
-                elif contexts and item is None:
-                    new = self.in_context(name, place, contexts)
+                elif contexts and (item is None or place == 0 and name in self.spans):
+                    new = self.in_context(name, place, contexts, before)
                     if new != name:
                         yield start, start + len(name), new
+                before = name
 
     def is_near(self, token, contexts):
         """Whether a token has a name that is given another one."""
@@ -151,11 +152,16 @@ class Rewriter:
         return is_given and re.search(r"(?:[{;]|\n\s+)\s*\Z", before) is not None
 
     @staticmethod
-    def in_context(name, place, contexts):
-        """A name of a function's goals, by the new names of what it calls."""
-        if "-" not in name and (place == 0 or name not in contexts):
-            return name
-        return "-".join("+".join(contexts.get(it, it) for it in piece.split("+")) for piece in name.split("-"))
+    def in_context(name, place, contexts, before=""):
+        """A name of a function's goals, by the new names of what it calls; after `clause` is the name of a clause."""
+        if "-" not in name:
+            is_call = place == 1 or before in ("args", "fn", "at") or before[:1].isupper()
+            return contexts.get(name, name) if place and is_call else name
+        pieces = name.split("-")
+        for at, piece in enumerate(pieces):
+            if at == 0 or pieces[at - 1] != "clause":
+                pieces[at] = "+".join(contexts.get(it, it) for it in piece.split("+"))
+        return "-".join(pieces)
 
     def blocks(self, file):
         """The definitions of a file, with their equations: a name is bound in a whole one."""
@@ -206,7 +212,11 @@ class Rewriter:
             front, sign, _ = path.partition(".Goals") if ".Goals" in path else path.partition(".Given")
             node = self.workspace.definition(front)[0] if sign else None
             if node and node[0] == "goals":
-                found |= self.called[node[1], node[2], node[-1]]
+                # (a type's functions may stand in any module)
+                crate, steps, name = node[1:4]
+                for caller, names in self.called.items():
+                    if (caller[0], caller[2]) == (crate, name) and (caller[1] == steps or node[4:]):
+                        found |= names
         return found
 
     def in_goals(self, text, offset, contexts):

@@ -20,7 +20,7 @@ OPENER = re.compile(
 )
 SIGNATURE = re.compile(r"(?:(?:pub|abbrev|unfoldable|private) )*([^\s:(){}]+) :(?=\s|$)")
 ITEM = re.compile(
-    r"^(?:pub(?:\([\w:]+\))? )?(?:(?:const|unsafe|final|extern \"C\") )*"
+    r"^(?:pub(?:\([\w:]+\))? )?(?:(?:const|unsafe|final|extern(?: \"C\")?) +)*"
     r"(fn|struct|enum|union|trait|const|static|type|mod|macro_rules!) (\w+)",
     re.M,
 )
@@ -28,7 +28,10 @@ BLOCK = re.compile(r"^(?:unsafe )?impl\b[^{]*\{", re.M)
 TRAIT = re.compile(r"^(?:pub(?:\([\w:]+\))? )?(?:unsafe )?trait (\w+)", re.M)
 METHOD = re.compile(r"^    (?:pub(?:\([\w:]+\))? )?(?:(?:const|unsafe|final) )*fn (\w+)", re.M)
 OWNER = re.compile(r"(?:for )?&?(?:mut )?(\w+)(?:<[^{]*>)?\s*(?:where[^{]*|requires[^{]*)?\{$")
-FUNCTION = re.compile(r"^( *)(?:pub(?:\([\w:]+\))? )?(?:(?:const|unsafe|final|extern \"C\") )*fn (\w+)", re.M)
+# (a text in quotes is hidden)
+FUNCTION = re.compile(
+    r"^( *)(?:pub(?:\([\w:]+\))? )?(?:(?:const|unsafe|final|extern(?: \"C\")?) +)*fn (\w+)", re.M
+)
 GENERATED = ("Goals", "Given", "Lts", "Law")
 
 
@@ -174,7 +177,8 @@ class Workspace:
         if len(node) == 4:
             file = self.file(crate, "src", steps)
             owners = file.methods.get(name, ()) if file else ()
-            return ("goals", crate, steps, name), ("method", crate, steps, node[3], name) if node[3] in owners else None
+            item = ("method", crate, steps, node[3], name) if node[3] in owners else None
+            return ("goals", crate, steps, name, node[3]), item
         if self.file(crate, "src", (*steps, name)) and name not in GENERATED:
             return ("source", crate, (*steps, name)), ("module", crate, "src", (*steps, name))
         file = self.file(crate, "src", steps)
