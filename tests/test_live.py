@@ -38,7 +38,7 @@ from tests.repository import ask_git, git, index_in
 # A time in the past, so that no test waits for a second to pass.
 PAST = 1_600_000_000
 NANOSECONDS = 1_000_000_000
-MOST_SECONDS = 60
+MOST_SECONDS = 180
 
 # A program that writes an index, its words before FILE and OUT, and the version of what it writes of each version.
 Writer = collections.namedtuple("Writer", "name words version_of")
