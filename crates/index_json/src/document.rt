@@ -2,15 +2,18 @@
 
 ghost use Rattle.index_state.specs.State.{contents};
 ghost use Rattle.index_text.specs.Blocks.{PutsText};
+ghost use Rattle.index_events.specs.Event.{Adds, told};
 ghost use Rattle.index_json.specs.Json.{event_text, json_text};
 
 use crate::data::{append_datum, append_ranges};
-use crate::entries::{append_entry, append_stat};
+use crate::entries::append_entry;
+use crate::position::position_of;
+use crate::untracked::{append_exclude, append_facts};
 use crate::values::{append_piece, append_text};
 use index_events::document::write_document;
 use index_events::event::Event::{
-    self, BeginArray, BeginObject, Bytes, EndArray, EndObject, EndText, EntryAt, FileStat, Heading,
-    Hidden, Line, Ranges, Value,
+    self, BeginArray, BeginCollection, BeginObject, Bytes, DirectoryFacts, EndArray, EndObject,
+    EndText, EntryAt, ExcludeFile, Ranges, Value,
 };
 use index_events::printer::{Printer, Text};
 use index_marks::Marks;
@@ -21,6 +24,26 @@ use index_text::append::Appended;
 use std::alloc::Global;
 use std::io;
 
+/// Appends the JSON text of an event.
+#[inline(always)]
+pub fn append_event(text: &mut Vec<u8>, event: Event<'_>) -> Appended
+    ensures { Adds result text.old text.new (event_text (told event.entry)) }
+{
+    match event {
+        Value(at, datum) => append_datum(text, position_of(at), datum),
+        Bytes(at, bytes) => append_text(text, position_of(at), bytes),
+        Ranges(at, ranges) => append_ranges(text, position_of(at), ranges),
+        EntryAt(place, entry, path) => append_entry(text, place, entry, path),
+        ExcludeFile(at, file) => append_exclude(text, position_of(at), file),
+        DirectoryFacts(directory) => append_facts(text, directory),
+        BeginObject(at) | BeginCollection(at, _) => append_piece(text, position_of(at), b"{"),
+        EndObject(_) => text.extend_from_slice(b"}"),
+        BeginArray(at, _) => append_piece(text, position_of(at), b"["),
+        EndArray(_) => text.extend_from_slice(b"]"),
+        EndText => text.extend_from_slice(b"\n"),
+    }
+}
+
 /// Puts events into JSON.
 struct Json;
 
@@ -29,21 +52,7 @@ impl Printer for Json {
 
     #[inline(always)]
     fn put(text: &mut Text, event: Event<'_>) -> Appended {
-        let text = &mut text.bytes;
-        match event {
-            Value(_, _, member, datum) => append_datum(text, member, datum),
-            Bytes(_, _, member, bytes) => append_text(text, member, bytes),
-            Ranges(_, _, member, ranges) => append_ranges(text, member, ranges),
-            FileStat(_, member, stat) => append_stat(text, member, stat),
-            EntryAt(place, entry, path) => append_entry(text, place, entry, path),
-            Heading(_, _) | Line(_, _, _) => Ok(()),
-            Hidden(member, datum) => append_datum(text, member, datum),
-            BeginObject(member) => append_piece(text, member, b"{"),
-            EndObject => text.extend_from_slice(b"}"),
-            BeginArray(member) => append_piece(text, member, b"["),
-            EndArray => text.extend_from_slice(b"]"),
-            EndText => text.extend_from_slice(b"\n"),
-        }
+        append_event(&mut text.bytes, event)
     }
 }
 

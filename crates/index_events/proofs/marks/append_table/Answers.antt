@@ -38,7 +38,7 @@ returns g c =
     let spell = g.P.Printer.spell in
     let r = c.put-2.result in
     let new = c.put-2.new.text.bytes.items in
-    let mid = c.put_all.new.self.bytes.items in
+    let mid = c.put-2.new.text.bytes.items in
     let blocks = c.deref-block-items.result.now in
     rw (c.if-not-had.false, c.in-Some.is, sym c.deref-block-items.ensures.value)
     (then_one spell r new (rw c.if-not-had.false at c.in_ok-put.ensures)
