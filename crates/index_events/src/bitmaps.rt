@@ -28,11 +28,11 @@ fn append_bitmap<P: Printer>(text: &mut Text, at: Where, depth: u32, map: &ewah:
     let bits = set_bits(*text.bytes.allocator(), map)?;
     let num_bits = Number(u64::from(map.num_bits()));
     let is_malformed = Answer(bits.is_malformed);
-    let malformed = Value(Member(Key::IsMalformed, depth, 2), is_malformed);
     P::put(text, BeginObject(at))?;
     P::put(text, Value(Member(Key::NumBits, depth, 0), num_bits))?;
     P::put(text, Ranges(Member(Key::SetBits, depth, 1), &bits.ranges))?;
-    text.put_all::<P>(&[malformed, EndObject(at)])
+    P::put(text, Value(Member(Key::IsMalformed, depth, 2), is_malformed))?;
+    P::put(text, EndObject(at))
 }
 
 /// Puts the link to a shared index: its id, and which of the index's entries are deleted and replaced.

@@ -58,12 +58,15 @@ fn append_directory<P: Printer>(text: &mut Text, place: usize, directory: &Direc
     let (names, places) = (directory.untracked_entries(), directory.sub_directories());
     let untracked = Member(Key::UntrackedEntries, 3, 4);
     let subs = Member(Key::SubDirectories, 3, 5);
-    let begin = BeginArray(untracked, names.len());
-    text.put_all::<P>(&[BeginObject(at), DirectoryFacts(directory), begin])?;
+    P::put(text, BeginObject(at))?;
+    P::put(text, DirectoryFacts(directory))?;
+    P::put(text, BeginArray(untracked, names.len()))?;
     append_names::<P>(text, names)?;
-    text.put_all::<P>(&[EndArray(untracked), BeginArray(subs, places.len())])?;
+    P::put(text, EndArray(untracked))?;
+    P::put(text, BeginArray(subs, places.len()))?;
     append_places::<P>(text, places)?;
-    text.put_all::<P>(&[EndArray(subs), EndObject(at)])
+    P::put(text, EndArray(subs))?;
+    P::put(text, EndObject(at))
 }
 
 /// Puts how many directories there are, and what the cache says of itself.
