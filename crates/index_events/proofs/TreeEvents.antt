@@ -1,5 +1,5 @@
 -- The events of a directory, and of those in it.
-use Rattle.std.proofs.Common.{◌≡◌, ℕ, ◌+◌, List, [], ◌∷◌, ◌++◌, add-one, length, map, refl, sym, ap, ◌∙◌}
+use Rattle.std.proofs.Common.{◌≡◌, ℕ, ◌+◌, List, [], ◌∷◌, ◌++◌, arith, length, map, refl, sym, ap, ◌∙◌}
 use Rattle.std.specs.List.{enumerate_from, flat_map}
 use Rattle.std.proofs.lemmas.List.Concat.{flat_map-cons}
 use Rattle.index_cached_tree.specs.Tree.{Node, how_many_nodes, node_of, node_step, nodes_from}
@@ -25,7 +25,7 @@ all_placed depth place (t ∷ ts) =
 
 counted : (ts : List Tree) → how_many_nodes (nodes_from (map node_of ts)) ≡ length ts
 counted [] = refl
-counted (t ∷ ts) = rw add-one (ap (λ (n : ℕ). n + 1) (counted ts))
+counted (t ∷ ts) = omega (arith, counted ts)
 
 pub tree_is : (at : Where) (depth : ℕ) (t : Tree) (ts : List Tree) → ts ≡ (out-Tree t).children.items
     → (tree_opened at depth t ++ listed (placed_tree depth) ts) ++ closed_events at depth

@@ -10,8 +10,8 @@ ghost use Rattle.index_events.specs.Event.{Tells, told};
 
 use crate::event::Datum::{Absent, Answer, Id, Number};
 use crate::event::Event::{self, BeginObject, Bytes, EndObject, Ranges, Value};
-use crate::event::Where::{self, Member};
 use crate::event::Key;
+use crate::event::Where::{self, Member};
 use crate::printer::{Printer, Text};
 use index_bitmaps::ewah;
 use index_bitmaps::ranges::set_bits;
@@ -31,7 +31,10 @@ fn append_bitmap<P: Printer>(text: &mut Text, at: Where, depth: u32, map: &ewah:
     P::put(text, BeginObject(at))?;
     P::put(text, Value(Member(Key::NumBits, depth, 0), num_bits))?;
     P::put(text, Ranges(Member(Key::SetBits, depth, 1), &bits.ranges))?;
-    P::put(text, Value(Member(Key::IsMalformed, depth, 2), is_malformed))?;
+    P::put(
+        text,
+        Value(Member(Key::IsMalformed, depth, 2), is_malformed),
+    )?;
     P::put(text, EndObject(at))
 }
 
@@ -81,6 +84,11 @@ pub fn append_monitor<P: Printer>(text: &mut Text, monitor: Option<&FsMonitor>) 
         return P::put(text, Value(at, Absent));
     };
     text.put_all::<P>(&[BeginObject(at), event_of_token(monitor.token())])?;
-    append_bitmap::<P>(text, Member(Key::EntryDirty, 1, 1), 2, monitor.entry_dirty())?;
+    append_bitmap::<P>(
+        text,
+        Member(Key::EntryDirty, 1, 1),
+        2,
+        monitor.entry_dirty(),
+    )?;
     P::put(text, EndObject(at))
 }

@@ -7,9 +7,7 @@ ghost use Rattle.index_events.specs.Event.{Sends, Tells, print};
 
 use crate::bitmaps::{append_link, append_monitor};
 use crate::event::Datum::{Answer, Id, Number};
-use crate::event::Event::{
-    BeginArray, BeginObject, EndArray, EndObject, EndText, EntryAt, Value,
-};
+use crate::event::Event::{BeginArray, BeginObject, EndArray, EndObject, EndText, EntryAt, Value};
 use crate::event::Key;
 use crate::event::Where::{Alone, Member};
 use crate::marks::{append_end, append_table};

@@ -38,7 +38,10 @@ pub fn append_end<P: Printer>(text: &mut Text, had: bool, mark: Option<EndMark>)
     ensures { Tells P.spell result text.old text.new (end_events had mark) }
 {
     let at = Member(Key::EndOfIndexMarker, 0, 12);
-    P::put(text, Value(Member(Key::HadEndOfIndexMarker, 0, 11), Answer(had)))?;
+    P::put(
+        text,
+        Value(Member(Key::HadEndOfIndexMarker, 0, 11), Answer(had)),
+    )?;
     if !had {
         return P::put(text, Value(at, Absent));
     }

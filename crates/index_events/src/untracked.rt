@@ -32,7 +32,10 @@ fn append_names<P: Printer>(text: &mut Text, names: &[BString]) -> Appended
     for (place, name) in names.iter().enumerate() {
         let at = Element(Item::UntrackedEntry, 4, place);
         P::put(text, BeginObject(at))?;
-        P::put(text, Bytes(Member(Key::UntrackedName, 5, 0), name.as_bytes()))?;
+        P::put(
+            text,
+            Bytes(Member(Key::UntrackedName, 5, 0), name.as_bytes()),
+        )?;
         P::put(text, EndObject(at))?;
     }
     Ok(())
@@ -80,7 +83,10 @@ fn append_begin<P: Printer>(text: &mut Text, cache: &UntrackedCache) -> Appended
         BeginCollection(Member(Key::Untracked, 0, 7), count),
         Bytes(Member(Key::Identifier, 1, 0), cache.identifier()),
         Value(Member(Key::DirFlags, 1, 1), flags),
-        Bytes(Member(Key::ExcludeFilenamePerDir, 1, 2), cache.exclude_filename_per_dir()),
+        Bytes(
+            Member(Key::ExcludeFilenamePerDir, 1, 2),
+            cache.exclude_filename_per_dir(),
+        ),
         ExcludeFile(Member(Key::InfoExclude, 1, 3), cache.info_exclude()),
         ExcludeFile(Member(Key::ExcludesFile, 1, 4), cache.excludes_file()),
         BeginArray(Member(Key::Directories, 1, 5), count),

@@ -19,7 +19,11 @@ use index_untracked::{Directory, OidStat};
 
 /// Appends a file of exclude patterns at its position: its stat and its id.
 #[tactic(auto, unfolding(crate::specs::Json::exclude_value, crate::specs::Values::member, crate::specs::Values::begin_with))]
-pub fn append_exclude(text: &mut Vec<u8>, position: Position<'_>, file: Option<&OidStat>) -> Appended
+pub fn append_exclude(
+    text: &mut Vec<u8>,
+    position: Position<'_>,
+    file: Option<&OidStat>,
+) -> Appended
     ensures { Adds result text.old text.new
         (begin_of (as_position position.entry) ++ exclude_value (option_map (λ f. f.now) file.entry)) }
 {
@@ -51,6 +55,14 @@ pub fn append_facts(text: &mut Vec<u8>, directory: &Directory) -> Appended
 {
     append_text(text, Position::First(b"name"), directory.name())?;
     append_optional_stat(text, Position::Next(b"stat"), directory.stat())?;
-    append_datum(text, Position::Next(b"exclude_file_oid"), Id(directory.exclude_file_oid()))?;
-    append_datum(text, Position::Next(b"check_only"), Answer(directory.check_only()))
+    append_datum(
+        text,
+        Position::Next(b"exclude_file_oid"),
+        Id(directory.exclude_file_oid()),
+    )?;
+    append_datum(
+        text,
+        Position::Next(b"check_only"),
+        Answer(directory.check_only()),
+    )
 }

@@ -36,7 +36,12 @@ fn append_depth(lines: &mut Vec<u8>, at: Where) -> Appended
     if depth <= DEEPEST_DIRECTORY {
         return Ok(());
     }
-    append_datum(lines, indent_of(DEEPEST_DIRECTORY + 2), b"depth", Number(u64::from(depth)))
+    append_datum(
+        lines,
+        indent_of(DEEPEST_DIRECTORY + 2),
+        b"depth",
+        Number(u64::from(depth)),
+    )
 }
 
 /// Appends the line of a text, and that of a directory's depth behind its name.

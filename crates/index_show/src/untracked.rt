@@ -46,7 +46,17 @@ pub fn append_facts(lines: &mut Vec<u8>, directory: &Directory) -> Appended
     ensures { Adds result lines.old lines.new (directory_lines (directory_value directory.now)) }
 {
     append_text(lines, b"    ", b"name", directory.name())?;
-    append_datum(lines, b"    ", b"check only", Answer(directory.check_only()))?;
-    append_datum(lines, b"    ", b"exclude file", Id(directory.exclude_file_oid()))?;
+    append_datum(
+        lines,
+        b"    ",
+        b"check only",
+        Answer(directory.check_only()),
+    )?;
+    append_datum(
+        lines,
+        b"    ",
+        b"exclude file",
+        Id(directory.exclude_file_oid()),
+    )?;
     append_cached_stat(lines, directory.stat())
 }
