@@ -19,7 +19,7 @@ use Rattle.index_untracked.specs.Blocks.{DirectoryValue}
 use Rattle.index_untracked.specs.declared.OidStat.{OidStat}
 use Rattle.index_json.specs.EntryValues.{entry_value, stat_value}
 use Rattle.index_json.specs.Names.{first, next, position_of}
-use Rattle.index_json.specs.Values.{array, begin_of, hex_string, id_member, member, number_member, separator, text_value}
+use Rattle.index_json.specs.Values.{array, begin_of, hex_string, id_member, number_member, separator, text_value}
 
 -- a range's first place, and how many places it has
 unfoldable pub range_value : Range → List ℕ
@@ -56,7 +56,8 @@ optional_stat (Some s) = stat_value s
 unfoldable pub exclude_value : Option OidStat → List ℕ
 exclude_value None = codes "null"
 exclude_value (Some file) =
-    member (codes "{") (codes "stat") (stat_value file.stat) ++ id_member (codes ",") (codes "id") file.id ++ codes "}"
+    codes "{" ++ (begin_of (first (codes "stat")) ++ stat_value file.stat)
+    ++ (begin_of (next (codes "id")) ++ datum_value (Id (Some file.id))) ++ codes "}"
 
 -- the first members of a directory of an untracked cache
 unfoldable pub directory_members : DirectoryValue → List ℕ

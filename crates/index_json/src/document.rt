@@ -2,19 +2,11 @@
 
 ghost use Rattle.index_state.specs.State.{contents};
 ghost use Rattle.index_text.specs.Blocks.{PutsText};
-ghost use Rattle.index_events.specs.Event.{Adds, told};
 ghost use Rattle.index_json.specs.Json.{event_text, json_text};
 
-use crate::data::{append_datum, append_ranges};
-use crate::entries::append_entry;
-use crate::position::position_of;
-use crate::untracked::{append_exclude, append_facts};
-use crate::values::{append_piece, append_text};
+use crate::events::append_event;
 use index_events::document::write_document;
-use index_events::event::Event::{
-    self, BeginArray, BeginCollection, BeginObject, Bytes, DirectoryFacts, EndArray, EndObject,
-    EndText, EntryAt, ExcludeFile, Ranges, Value,
-};
+use index_events::event::Event;
 use index_events::printer::{Printer, Text};
 use index_marks::Marks;
 use index_parts::hash::ObjectId;
@@ -23,26 +15,6 @@ use index_state::State;
 use index_text::append::Appended;
 use std::alloc::Global;
 use std::io;
-
-/// Appends the JSON text of an event.
-#[inline(always)]
-pub fn append_event(text: &mut Vec<u8>, event: Event<'_>) -> Appended
-    ensures { Adds result text.old text.new (event_text (told event.entry)) }
-{
-    match event {
-        Value(at, datum) => append_datum(text, position_of(at), datum),
-        Bytes(at, bytes) => append_text(text, position_of(at), bytes),
-        Ranges(at, ranges) => append_ranges(text, position_of(at), ranges),
-        EntryAt(place, entry, path) => append_entry(text, place, entry, path),
-        ExcludeFile(at, file) => append_exclude(text, position_of(at), file),
-        DirectoryFacts(directory) => append_facts(text, directory),
-        BeginObject(at) | BeginCollection(at, _) => append_piece(text, position_of(at), b"{"),
-        EndObject(_) => text.extend_from_slice(b"}"),
-        BeginArray(at, _) => append_piece(text, position_of(at), b"["),
-        EndArray(_) => text.extend_from_slice(b"]"),
-        EndText => text.extend_from_slice(b"\n"),
-    }
-}
 
 /// Puts events into JSON.
 struct Json;

@@ -6,11 +6,12 @@ ghost use Rattle.index_events.specs.Event.{Adds, record_at};
 ghost use Rattle.index_state.specs.State.{contents};
 ghost use Rattle.index_text.specs.Blocks.{PutsText};
 ghost use Rattle.index_json.specs.EntryValues.{entry_value};
-ghost use Rattle.index_json.specs.Lines.{begin_line, begin_list, end_line, end_list, end_part, has_line, json_lines, line_text, part_name, value_line};
+ghost use Rattle.index_json.specs.Lines.{begin_line, begin_list, end_line, end_list, end_part, has_line};
+ghost use Rattle.index_json.specs.Lines.{json_lines, line_text, part_name, value_line};
 
 use crate::data::append_datum;
-use crate::document::append_event;
 use crate::entries::append_entry;
+use crate::events::append_event;
 use crate::position::{Position, name_of, position_of};
 use crate::values::append_piece;
 use index_entries::Entry;
@@ -154,14 +155,15 @@ impl Printer for Lines {
 /// Writes what a file holds as lines, each of which is one JSON object. They have the names and the values of
 /// [`write_json`](crate::write_json):
 ///
-/// - first `{"version":..,"checksum":..,"is_sparse":..,"num_entries":..}`, whose last member says how many entries follow;
+/// - first `{"version":..,"checksum":..,"is_sparse":..,"num_entries":..}`, whose last member says how many entries
+///   follow;
 /// - then `{"entry":{..}}` for each entry, in their order;
 /// - then `{"tree":{..}}`, `{"link":{..}}`, `{"resolve_undo":[..]}`, `{"untracked":{..}}`, `{"fs_monitor":{..}}`,
-///   `{"offset_table":[..]}` and `{"end_of_index_marker":{..}}`, each only if there is such a part. An offset table and an
-///   end marker that are malformed are `null`.
+///   `{"offset_table":[..]}` and `{"end_of_index_marker":{..}}`, each only if there is such a part. An offset table and
+///   an end marker that are malformed are `null`.
 ///
-/// So a reader needs no more memory than the longest line takes, and chooses lines by the name of their only member, as in
-/// `jq 'select(.entry).entry.path'`.
+/// So a reader needs no more memory than the longest line takes, and chooses lines by the name of their only member, as
+/// in `jq 'select(.entry).entry.path'`.
 ///
 /// Text waits in one buffer, which goes out past 64 KiB. An error is that of the output, which has then failed, or want
 /// of memory for the buffer; what was written by then is a prefix of the text.

@@ -24,7 +24,7 @@ pub fn name_of<'a>(key: Key) -> &'a [u8]
 {
     match key {
         Key::Version => b"version",
-        Key::Checksum => b"checksum",
+        Key::Checksum | Key::EndChecksum => b"checksum",
         Key::IsSparse => b"is_sparse",
         Key::Entries => b"entries",
         Key::Tree => b"tree",
@@ -36,7 +36,7 @@ pub fn name_of<'a>(key: Key) -> &'a [u8]
         Key::OffsetTable => b"offset_table",
         Key::HadEndOfIndexMarker => b"had_end_of_index_marker",
         Key::EndOfIndexMarker => b"end_of_index_marker",
-        Key::DirectoryName => b"name",
+        Key::DirectoryName | Key::ResolvedPath | Key::UntrackedName => b"name",
         Key::DirectoryId => b"id",
         Key::NumEntries => b"num_entries",
         Key::Children => b"children",
@@ -47,7 +47,6 @@ pub fn name_of<'a>(key: Key) -> &'a [u8]
         Key::NumBits => b"num_bits",
         Key::SetBits => b"set",
         Key::IsMalformed => b"is_malformed",
-        Key::ResolvedPath => b"name",
         Key::Stages => b"stages",
         Key::Identifier => b"identifier",
         Key::DirFlags => b"dir_flags",
@@ -56,13 +55,11 @@ pub fn name_of<'a>(key: Key) -> &'a [u8]
         Key::ExcludesFile => b"excludes_file",
         Key::Directories => b"directories",
         Key::UntrackedEntries => b"untracked_entries",
-        Key::UntrackedName => b"name",
         Key::SubDirectories => b"sub_directories",
         Key::NanosSince1970 => b"nanos_since_1970",
         Key::Token => b"token",
         Key::EntryDirty => b"entry_dirty",
         Key::OffsetToExtensions => b"offset_to_extensions",
-        Key::EndChecksum => b"checksum",
     }
 }
 

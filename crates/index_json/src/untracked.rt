@@ -18,7 +18,7 @@ use index_text::append::Appended;
 use index_untracked::{Directory, OidStat};
 
 /// Appends a file of exclude patterns at its position: its stat and its id.
-#[tactic(auto, unfolding(crate::specs::Json::exclude_value, crate::specs::Values::member, crate::specs::Values::begin_with))]
+#[tactic(auto, unfolding(crate::specs::Json::exclude_value))]
 pub fn append_exclude(
     text: &mut Vec<u8>,
     position: Position<'_>,

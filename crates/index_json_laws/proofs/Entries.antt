@@ -19,7 +19,7 @@ use Rattle.index_events.specs.declared.event.Datum.{Datum}
 use Rattle.index_events.specs.declared.event.Datum.TheVariants.{Absent, Answer, Block, Count, Id, Malformed, Number}
 use Rattle.index_events.specs.declared.event.Datum.TheVariants.{Side}
 use Rattle.index_json.specs.Names.{first}
-use Rattle.index_json.specs.Values.{text_value}
+use Rattle.index_json.specs.Values.{begin_with, text_value}
 use Rattle.index_json_laws.specs.EventValues.{block_object, entry_object, exclude_object, range_array, side_object}
 use Rattle.index_json_laws.specs.EventValues.{stat_object, stat_or_null}
 use Rattle.index_json_laws.specs.EventValues.{time_object, value_of_datum}
@@ -80,7 +80,7 @@ stat_or_null_text None = refl
 stat_or_null_text (Some s) = stat_text s
 
 pub exclude_text : (file : Option OidStat) → exclude_value file ≡ spelling (exclude_object file)
-unfolding exclude_value written_member escape_byte
+unfolding exclude_value begin_with escape_byte
 exclude_text None = refl
 exclude_text (Some file) = simp (append_assoc, append-nil, stat_text file.stat) refl
 

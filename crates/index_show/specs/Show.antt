@@ -9,13 +9,13 @@ use Rattle.index_parts.specs.declared.hash.ObjectId.{ObjectId}
 use Rattle.index_show.specs.Entries.{entry_lines}
 use Rattle.index_show.specs.Fields.{datum_text, ranges_line, text_line}
 use Rattle.index_show.specs.Untracked.{directory_lines, exclude_lines}
-use Rattle.index_show.specs.Words.{count_line, depth_line, indent_at, line_at, object_line, words_at}
+use Rattle.index_show.specs.Words.{count_line, depth_line, indent_at, line_at, object_line, line_words}
 
 -- the lines of an event; ends have none
 abbrev pub line_text : Event → List ℕ
 line_text (datum_field at d) = line_at at (datum_text d)
-line_text (text_field at bytes) = text_line (indent_at at) (words_at at) bytes ++ depth_line at
-line_text (ranges_field at ranges) = ranges_line (indent_at at) (words_at at) ranges
+line_text (text_field at bytes) = text_line (indent_at at) (line_words at) bytes ++ depth_line at
+line_text (ranges_field at ranges) = ranges_line (indent_at at) (line_words at) ranges
 line_text (entry_item place r) = entry_lines place r
 line_text (exclude_file at file) = exclude_lines at file
 line_text (directory_facts d) = directory_lines d

@@ -7,13 +7,13 @@ use Rattle.index_events.specs.declared.event.Datum.TheVariants.{Absent, Answer, 
 use Rattle.index_events.specs.declared.event.Where.{Where}
 use Rattle.index_show.specs.Entries.{stat_lines}
 use Rattle.index_show.specs.Fields.{datum_text, field, heading_line, text_line}
-use Rattle.index_show.specs.Words.{indent_at, words_at}
+use Rattle.index_show.specs.Words.{indent_at, line_words}
 
 -- the id of a file of exclude patterns, and its stat
 unfoldable pub exclude_lines : Where → Option OidStat → List ℕ
-exclude_lines at None = field (indent_at at) (words_at at) (datum_text Absent)
+exclude_lines at None = field (indent_at at) (line_words at) (datum_text Absent)
 exclude_lines at (Some file) =
-    field (indent_at at) (words_at at) (datum_text (Id (Some file.id))) ++ stat_lines (codes "    ") file.stat
+    field (indent_at at) (line_words at) (datum_text (Id (Some file.id))) ++ stat_lines (codes "    ") file.stat
 
 -- the stat of a directory
 unfoldable pub cached_stat_lines : Option Stat → List ℕ

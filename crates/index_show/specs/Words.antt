@@ -59,10 +59,10 @@ item_words items.SubDirectory = codes "subdirectory"
 item_words items.Block = codes "block"
 item_words item = []
 
-abbrev pub words_at : Where → List ℕ
-words_at Alone = []
-words_at (Member key depth number) = key_words key
-words_at (Element item depth position) = item_words item
+abbrev pub line_words : Where → List ℕ
+line_words Alone = []
+line_words (Member key depth number) = key_words key
+line_words (Element item depth position) = item_words item
 
 -- ---- indent
 
@@ -116,7 +116,7 @@ is_read at = true
 
 -- the line of a value
 unfoldable pub line_at : Where → List ℕ → List ℕ
-line_at at value = if is_read at then field (indent_at at) (words_at at) value else []
+line_at at value = if is_read at then field (indent_at at) (line_words at) value else []
 
 -- whether an object or an array has a line at its begin
 abbrev pub has_heading : Where → Bool
@@ -136,11 +136,11 @@ has_heading at = false
 unfoldable pub object_line : Where → List ℕ
 object_line (Element items.Directory depth position) =
     number_line (indent (item_level items.Directory)) (item_words items.Directory) position
-object_line at = if has_heading at then heading_line (indent_at at) (words_at at) else []
+object_line at = if has_heading at then heading_line (indent_at at) (line_words at) else []
 
 -- the line at the begin of an array, or of an object whose last member is one: how many elements it has
 unfoldable pub count_line : Where → ℕ → List ℕ
-count_line at count = if has_heading at then number_line (indent_at at) (words_at at) count else []
+count_line at count = if has_heading at then number_line (indent_at at) (line_words at) count else []
 
 -- the depth of a directory, where its indent doesn't say it
 unfoldable pub depth_line : Where → List ℕ

@@ -7,7 +7,7 @@ ghost use Rattle.index_show.specs.Untracked.{cached_stat_lines, directory_lines,
 
 use crate::entries::{append_directory_stat, append_file_stat};
 use crate::fields::{append_datum, append_heading, append_text};
-use crate::words::{indent_at, words_at};
+use crate::words::{indent_at, line_words};
 use index_events::event::Datum::{Absent, Answer, Id};
 use index_events::event::Where;
 use index_metadata::entry::Stat;
@@ -21,9 +21,9 @@ pub fn append_exclude(lines: &mut Vec<u8>, at: Where, file: Option<&OidStat>) ->
         (exclude_lines at (option_map (λ f. f.now) file.entry)) }
 {
     let Some(file) = file else {
-        return append_datum(lines, indent_at(at), words_at(at), Absent);
+        return append_datum(lines, indent_at(at), line_words(at), Absent);
     };
-    append_datum(lines, indent_at(at), words_at(at), Id(Some(file.id)))?;
+    append_datum(lines, indent_at(at), line_words(at), Id(Some(file.id)))?;
     append_file_stat(lines, file.stat)
 }
 

@@ -1,7 +1,8 @@
 //! What people read of the structure: words for a field or an element, an indent, and a heading.
 
 ghost use Rattle.std.specs.Prelude.{◌≡◌, ◌≤◌};
-ghost use Rattle.index_show.specs.Words.{has_heading, indent, indent_at, is_read, item_level, item_words, key_level, key_words, level_at, words_at};
+ghost use Rattle.index_show.specs.Words.{has_heading, indent, indent_at, is_read, item_level, item_words};
+ghost use Rattle.index_show.specs.Words.{key_level, key_words, level_at, line_words};
 
 use index_events::event::{Item, Key, Where};
 
@@ -19,9 +20,9 @@ fn words_of_key<'a>(key: Key) -> &'a [u8]
         Key::Version => b"version",
         Key::Checksum => b"checksum",
         Key::IsSparse => b"sparse",
-        Key::Entries => b"entries",
+        Key::Entries | Key::NumEntries => b"entries",
         Key::Tree => b"cached tree",
-        Key::Link => b"link",
+        Key::Link | Key::SharedIndexChecksum => b"link",
         Key::ResolveUndo => b"resolve undo",
         Key::Untracked => b"untracked cache",
         Key::FsMonitor => b"file system monitor",
@@ -29,8 +30,6 @@ fn words_of_key<'a>(key: Key) -> &'a [u8]
         Key::EndOfIndexMarker => b"end marker",
         Key::DirectoryName => b"directory",
         Key::DirectoryId => b"id",
-        Key::NumEntries => b"entries",
-        Key::SharedIndexChecksum => b"link",
         Key::Bitmaps => b"bitmaps",
         Key::Delete => b"deleted",
         Key::Replace => b"replaced",
@@ -49,13 +48,7 @@ fn words_of_key<'a>(key: Key) -> &'a [u8]
         Key::EntryDirty => b"dirty",
         Key::OffsetToExtensions => b"offset",
         Key::EndChecksum => b"digest",
-        Key::HadOffsetTable
-        | Key::HadEndOfIndexMarker
-        | Key::Children
-        | Key::Stages
-        | Key::Directories
-        | Key::UntrackedEntries
-        | Key::SubDirectories => b"",
+        _ => b"",
     }
 }
 
@@ -70,13 +63,13 @@ fn words_of_item<'a>(item: Item) -> &'a [u8]
         Item::Directory => b"directory",
         Item::SubDirectory => b"subdirectory",
         Item::Block => b"block",
-        Item::Child | Item::ResolvedPath | Item::UntrackedEntry => b"",
+        _ => b"",
     }
 }
 
 /// The words of what is at a place.
-pub fn words_at<'a>(at: Where) -> &'a [u8]
-    ensures { result.now ≡ words_at at }
+pub fn line_words<'a>(at: Where) -> &'a [u8]
+    ensures { result.now ≡ line_words at }
 {
     match at {
         Where::Alone => b"",

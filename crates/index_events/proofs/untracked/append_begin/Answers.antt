@@ -11,7 +11,8 @@ unfolding cache_begin
 returns g c =
     let many = sym (length-map c.directories.result.now directory_value)
     ∙ ap (λ (ds : List DirectoryValue). length ds) c.directories.ensures in
-    (end_all g.P.Printer.spell c.put_all.result c.put_all.new.self.bytes.items _ (cache_begin (cache_of c.args.cache.now))
+    (end_all g.P.Printer.spell c.put_all.result c.put_all.new.self.bytes.items _
+    (cache_begin (cache_of c.args.cache.now))
     (rw (
       many,
       c.from.ensures,
