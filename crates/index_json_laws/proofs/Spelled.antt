@@ -121,16 +121,25 @@ facts_spelled : (d : DirectoryValue) (b : Behind) (text : List ℕ) → IsText b
     → IsText (put_facts d b) (directory_members d ++ text)
 unfolding directory_members
 facts_spelled d b text h =
-    let check_only = begin_of (next (codes "check_only")) ++ datum_value (Answer d.check_only) in
-    let exclude = begin_of (next (codes "exclude_file_oid")) ++ datum_value (Id d.exclude) in
-    let stat = begin_of (next (codes "stat")) ++ optional_stat d.stat in
-    subst (IsText (put_facts d b)) (grouped (text_value (first (codes "name")) d.name) stat exclude check_only text)
-    (text_spelled (first (codes "name")) d.name _ _
-    (put_spelled (next (codes "stat")) (stat_or_null d.stat) _ (optional_stat d.stat) _ (stat_or_null_text d.stat)
-    (put_spelled (next (codes "exclude_file_oid")) (value_of_datum (Id d.exclude)) _ (datum_value (Id d.exclude)) _
-    (datum_text (Id d.exclude))
-    (put_spelled (next (codes "check_only")) (value_of_datum (Answer d.check_only)) b
-    (datum_value (Answer d.check_only)) text (datum_text (Answer d.check_only)) h))))
+    let name = codes "name" in
+    let stat = next (codes "stat") in
+    let exclude = next (codes "exclude_file_oid") in
+    let check = next (codes "check_only") in
+    let id = Id d.exclude in
+    let answer = Answer d.check_only in
+    let b2 = put check (value_of_datum answer) b in
+    let b1 = put exclude (value_of_datum id) b2 in
+    let b0 = put stat (stat_or_null d.stat) b1 in
+    let t2 = (begin_of check ++ datum_value answer) ++ text in
+    let t1 = (begin_of exclude ++ datum_value id) ++ t2 in
+    let t0 = (begin_of stat ++ optional_stat d.stat) ++ t1 in
+    subst (IsText (put_facts d b))
+    (grouped (text_value (first name) d.name) (begin_of stat ++ optional_stat d.stat)
+    (begin_of exclude ++ datum_value id) (begin_of check ++ datum_value answer) text)
+    (text_spelled (first name) d.name b0 t0
+    (put_spelled stat (stat_or_null d.stat) b1 (optional_stat d.stat) t1 (stat_or_null_text d.stat)
+    (put_spelled exclude (value_of_datum id) b2 (datum_value id) t2 (datum_text id)
+    (put_spelled check (value_of_datum answer) b (datum_value answer) text (datum_text answer) h))))
   where
     grouped : (a b c d e : List ℕ) → a ++ (b ++ (c ++ (d ++ e))) ≡ (a ++ b ++ c ++ d) ++ e
     grouped a b c d e = simp append_assoc
