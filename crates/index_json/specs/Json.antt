@@ -1,6 +1,6 @@
 -- The JSON text of events, and so all that an index file holds as one object on one line (the library's own; the text
 -- is that of RFC 8259).
-use Rattle.std.specs.Prelude.{List, ℕ, ◌-◌, [], ◌++◌, codes, decimal, true, false, Option, Some, None}
+use Rattle.std.specs.Prelude.{List, ℕ, ◌-◌, ◌++◌, codes, decimal, true, false, Option, Some, None}
 use Rattle.index_bitmaps.specs.declared.ranges.Range.{Range}
 use Rattle.index_events.specs.Document.{document_events}
 use Rattle.index_events.specs.declared.event.Datum.{Datum}

@@ -15,7 +15,7 @@ use Rattle.index_marks.specs.declared.Marks.{Marks}
 use Rattle.index_parts.specs.declared.hash.ObjectId.{ObjectId}
 use Rattle.index_json.specs.EntryValues.{entry_value}
 use Rattle.index_json.specs.Json.{datum_value, event_text}
-use Rattle.index_json.specs.Names.{first, name_of, position_of}
+use Rattle.index_json.specs.Names.{first, field_name, position_of}
 use Rattle.index_json.specs.Values.{begin_of}
 
 -- the name of a part with a line of its own: a member of the index behind its entries
@@ -24,7 +24,7 @@ part_name (places.Member keys.Version depth number) = None
 part_name (places.Member keys.Checksum depth number) = None
 part_name (places.Member keys.IsSparse depth number) = None
 part_name (places.Member keys.Entries depth number) = None
-part_name (places.Member key depth number) = if depth == 0 then Some (name_of key) else None
+part_name (places.Member key depth number) = if depth == 0 then Some (field_name key) else None
 part_name at = None
 
 -- a value has a line, unless it says that there is no such part, or whether there is one
@@ -65,17 +65,17 @@ end_part places.Alone = []
 end_part at = end_line (part_name at) (codes "}")
 
 -- the text of an event
-abbrev pub line_text : Event → List ℕ
-line_text (datum_field at d) = value_line (part_name at) at d
-line_text (entry_item place r) = codes "{\"entry\":" ++ entry_value r ++ codes "}\n"
-line_text (begin_object at) = begin_line (part_name at) at (codes "{")
-line_text (begin_collection at count) = begin_line (part_name at) at (codes "{")
-line_text (end_object at) = end_part at
-line_text (begin_array at count) = begin_list at count
-line_text (end_array at) = end_list at
-line_text end_text = []
-line_text event = event_text event
+abbrev pub event_line : Event → List ℕ
+event_line (datum_field at d) = value_line (part_name at) at d
+event_line (entry_item place r) = codes "{\"entry\":" ++ entry_value r ++ codes "}\n"
+event_line (begin_object at) = begin_line (part_name at) at (codes "{")
+event_line (begin_collection at count) = begin_line (part_name at) at (codes "{")
+event_line (end_object at) = end_part at
+event_line (begin_array at count) = begin_list at count
+event_line (end_array at) = end_list at
+event_line end_text = []
+event_line event = event_text event
 
 -- all lines
 abbrev pub json_lines : Contents → Option ObjectId → Marks → List ℕ
-json_lines c checksum marks = print line_text (document_events c checksum marks)
+json_lines c checksum marks = print event_line (document_events c checksum marks)

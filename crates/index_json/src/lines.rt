@@ -7,12 +7,12 @@ ghost use Rattle.index_state.specs.State.{contents};
 ghost use Rattle.index_text.specs.Blocks.{PutsText};
 ghost use Rattle.index_json.specs.EntryValues.{entry_value};
 ghost use Rattle.index_json.specs.Lines.{begin_line, begin_list, end_line, end_list, end_part, has_line};
-ghost use Rattle.index_json.specs.Lines.{json_lines, line_text, part_name, value_line};
+ghost use Rattle.index_json.specs.Lines.{json_lines, event_line, part_name, value_line};
 
 use crate::data::append_datum;
 use crate::entries::append_entry;
 use crate::events::append_event;
-use crate::position::{Position, name_of, position_of};
+use crate::position::{Position, field_name, position_of};
 use crate::values::append_piece;
 use index_entries::Entry;
 use index_events::document::write_document;
@@ -37,7 +37,7 @@ fn part_name<'a>(at: Where) -> Option<&'a [u8]>
 {
     match at {
         Where::Member(Key::Version | Key::Checksum | Key::IsSparse | Key::Entries, _, _) => None,
-        Where::Member(key, 0, _) => Some(name_of(key)),
+        Where::Member(key, 0, _) => Some(field_name(key)),
         _ => None,
     }
 }
@@ -132,7 +132,7 @@ fn append_entry_line(text: &mut Vec<u8>, entry: &Entry, path: &[u8]) -> Appended
 struct Lines;
 
 impl Printer for Lines {
-    ghost spell = { line_text };
+    ghost spell = { event_line };
 
     #[inline(always)]
     fn put(text: &mut Text, event: Event<'_>) -> Appended {

@@ -1,7 +1,7 @@
 //! Where a value stands in a JSON text, and the names of fields.
 
 ghost use Rattle.std.specs.Prelude.{◌≡◌};
-ghost use Rattle.index_json.specs.Names.{as_position, name_of, position_of};
+ghost use Rattle.index_json.specs.Names.{as_position, field_name, position_of};
 
 use index_events::event::{Key, Where};
 
@@ -19,8 +19,8 @@ pub enum Position<'a> {
 }
 
 /// The name of a field.
-pub fn name_of<'a>(key: Key) -> &'a [u8]
-    ensures { result.now ≡ name_of key }
+pub fn field_name<'a>(key: Key) -> &'a [u8]
+    ensures { result.now ≡ field_name key }
 {
     match key {
         Key::Version => b"version",
@@ -69,8 +69,8 @@ pub fn position_of<'a>(at: Where) -> Position<'a>
 {
     match at {
         Where::Alone => Position::Alone,
-        Where::Member(key, _, 0) => Position::First(name_of(key)),
-        Where::Member(key, _, _) => Position::Next(name_of(key)),
+        Where::Member(key, _, 0) => Position::First(field_name(key)),
+        Where::Member(key, _, _) => Position::Next(field_name(key)),
         Where::Element(_, _, place) => Position::Element(place),
     }
 }

@@ -67,7 +67,12 @@ pub fn append_begin(lines: &mut Vec<u8>, at: Where) -> Appended
     ensures { Adds result lines.old lines.new (object_line at) }
 {
     if let Where::Element(Item::Directory, _, position) = at {
-        return append_datum(lines, indent_at(at), line_words(at), Number(position as u64));
+        return append_datum(
+            lines,
+            indent_at(at),
+            line_words(at),
+            Number(position as u64),
+        );
     }
     if !has_heading(at) {
         return Ok(());

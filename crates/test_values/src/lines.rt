@@ -12,9 +12,10 @@ use std::test::Fail;
 
 /// The lines of an index with the entry `a`, and without extensions.
 const LINES: &[u8] = b"{\"version\":2,\"checksum\":null,\"is_sparse\":false,\"num_entries\":1}\n\
-    {\"entry\":{\"path\":\"a\",\"id\":\"1111111111111111111111111111111111111111\",\"mode\":33188,\"stage\":0,\"flags\":0,\
-    \"stat\":{\"mtime\":{\"secs\":0,\"nsecs\":0},\"ctime\":{\"secs\":0,\"nsecs\":0},\"dev\":0,\"ino\":0,\"uid\":0,\"gid\":0,\
-    \"size\":0}}}\n";
+    {\"entry\":{\"path\":\"a\",\"id\":\"1111111111111111111111111111111111111111\",\
+    \"mode\":33188,\"stage\":0,\"flags\":0,\
+    \"stat\":{\"mtime\":{\"secs\":0,\"nsecs\":0},\"ctime\":{\"secs\":0,\"nsecs\":0},\
+    \"dev\":0,\"ino\":0,\"uid\":0,\"gid\":0,\"size\":0}}}\n";
 
 /// The lines of a state.
 fn lines_of(alloc: Global, state: &State) -> io::Result<Vec<u8>> {
