@@ -35,7 +35,7 @@ loop-place-preserved g t c =
     c.deref-child-items.result.now c.loop-place.place c.child-item.result (omega (arith, c.loop-place-test.true))
     c.loop-place.invariant
     (subst P c.child-item.is
-    (rw (c.saturating_add.ensures, c.saturating_add-2.ensures) at c.in_ok-write_directory.ensures)))
+    (rw (c.saturating_add.ensures, c.saturating_add-in-loop-place.ensures) at c.in_ok-write_directory.ensures)))
 
 pub returns-in_err-put_block : goal.returns-in_err-put_block
 returns-in_err-put_block g t c =
@@ -75,7 +75,7 @@ returns-in_err-write_directory g t c =
     (closed_events c.args.at depth) kids kids refl (map-id kids) (Err c.in_err-write_directory.field-0.0)
     c.loop-place.place c.child-item.result refl (omega (arith, c.loop-place-test.true)) c.loop-place.invariant
     (subst P c.child-item.is
-    (rw (c.saturating_add.ensures, c.saturating_add-2.ensures) at c.in_err-write_directory.ensures))))
+    (rw (c.saturating_add.ensures, c.saturating_add-in-loop-place.ensures) at c.in_err-write_directory.ensures))))
 
 pub returns-in_err-put_all : goal.returns-in_err-put_all
 returns-in_err-put_all g t c =
