@@ -1,8 +1,9 @@
 -- The events of a directory, and of those in it.
-use Rattle.std.proofs.Common.{◌≡◌, ℕ, ◌+◌, List, [], ◌∷◌, ◌++◌, arith, length, map, refl, sym, ap, ◌∙◌}
+use Rattle.std.proofs.Common.{◌≡◌, ℕ, ◌+◌, List, [], ◌∷◌, ◌++◌, map, refl, sym, ap, ◌∙◌}
 use Rattle.std.specs.List.{enumerate_from, flat_map}
 use Rattle.std.proofs.lemmas.List.Concat.{flat_map-cons}
-use Rattle.index_cached_tree.specs.Tree.{Node, how_many_nodes, node_of, node_step, nodes_from}
+use Rattle.index_cached_tree.proofs.TreeLengths.{number}
+use Rattle.index_cached_tree.specs.Tree.{Node, node_of, node_step, nodes_from}
 use Rattle.index_cached_tree.specs.declared.Tree.{Tree}
 use Rattle.index_cached_tree.specs.declared.Tree.TheFolds.{fold_out-Tree}
 use Rattle.index_cached_tree.specs.declared.Tree.TheViews.{out-Tree}
@@ -23,10 +24,6 @@ all_placed depth place (t ∷ ts) =
     ap (λ (l : List Event). placed_tree depth place t ++ l) (all_placed depth (place + 1) ts)
     ∙ sym (flat_map-cons (λ (p : ℕ × Tree). placed_tree depth p.0 p.1) (place, t) (enumerate_from (place + 1) ts))
 
-counted : (ts : List Tree) → how_many_nodes (nodes_from (map node_of ts)) ≡ length ts
-counted [] = refl
-counted (t ∷ ts) = omega (arith, counted ts)
-
 pub tree_is : (at : Where) (depth : ℕ) (t : Tree) (ts : List Tree) → ts ≡ (out-Tree t).children.items
     → (tree_opened at depth t ++ listed (placed_tree depth) ts) ++ closed_events at depth
     ≡ tree_events at depth (node_of t)
@@ -37,5 +34,5 @@ tree_is at depth t ts e =
     ∙ ap (λ (l : List Event). (tree_opened at depth t ++ l) ++ closed_events at depth)
     (sym (all_placed depth 0 kids))
     ∙ ap (λ (n : ℕ). (opened_events at depth v.name.items v.id v.num_entries n
-    ++ all_tree_events 0 depth (nodes_from (map node_of kids))) ++ closed_events at depth) (sym (counted kids))
+    ++ all_tree_events 0 depth (nodes_from (map node_of kids))) ++ closed_events at depth) (sym (number kids))
     ∙ sym (ap (tree_events at depth) (fold_out-Tree Node node_step t))
