@@ -78,6 +78,16 @@ abbrev pub all_behind : List Event → List (List Event) → List Event
 all_behind es [] = es
 all_behind es (fs ∷ rest) = all_behind (es ++ fs) rest
 
+-- behind a failure nothing of the other lists is told
+pub none_left : {S T U : Type 0} {w : Ghosts S} {a b : S} (spell : Event → List ℕ) (old : List ℕ) (es : List Event)
+    (rest : List (List Event)) (e : Error) {waiting later : List ℕ}
+    → PutsBlocks {T = U} w a b (Err e) waiting (old ++ print spell es)
+    → PutsBlocks {T = T} w a b (Err e) later (old ++ print spell (all_behind es rest))
+none_left spell old es [] e p = record { ok = tt; err = p.err; going = tt; cause = p.cause; loan = p.loan }
+none_left {T = T} {U = U} spell old es (fs ∷ rest) e {waiting = waiting} p =
+    none_left {T = T} {U = T} spell old (es ++ fs) rest e {waiting = waiting}
+    (rest_untold {T = T} {U = U} spell old es fs e {later = waiting} p)
+
 module _ {S : Type 0} {w : Ghosts S} {a : S} {spell : Event → List ℕ} {old : List ℕ} where
   -- the first event waits
   pub begun : {new : List ℕ} (e : Event) → new ≡ old ++ spell e → Sent w a a spell old new (e ∷ [])
@@ -95,15 +105,6 @@ module _ {S : Type 0} {w : Ghosts S} {a : S} {spell : Event → List ℕ} {old :
     pub and_told : later ≡ mid ++ print spell fs → Sent w a b spell old later (es ++ fs)
     and_told q = record { is = told_then spell old es fs s.is q }
 
-  -- behind a failure nothing of the other lists is told
-  pub none_left : {T U : Type 0} {b : S} {waiting later : List ℕ} (es : List Event) (rest : List (List Event))
-      (e : Error) → PutsBlocks {T = U} w a b (Err e) waiting (old ++ print spell es)
-      → PutsBlocks {T = T} w a b (Err e) later (old ++ print spell (all_behind es rest))
-  none_left es [] e p = record { ok = tt; err = p.err; going = tt; cause = p.cause; loan = p.loan }
-  none_left {T} {U} {waiting = waiting} es (fs ∷ rest) e p =
-      none_left {T = T} {U = T} {waiting = waiting} (es ++ fs) rest e
-      (rest_untold {T = T} {U = U} spell old es fs e {later = waiting} p)
-
   module _ {b : S} {mid later : List ℕ} {es : List Event} (fs : List Event) (rest : List (List Event))
       (s : Sent w a b spell old mid es) {e : Error} where
     -- the first call that breaks off
@@ -111,11 +112,11 @@ module _ {S : Type 0} {w : Ghosts S} {a : S} {spell : Event → List ℕ} {old :
         → PutsBlocks {T = U} w b c (Err e) waiting (mid ++ print spell fs)
         → PutsBlocks {T = T} w a c (Err e) later (old ++ print spell (all_behind (es ++ fs) rest))
     first_broken {U = U} {waiting = waiting} q =
-        none_left {waiting = waiting} (es ++ fs) rest e (sent_then {T = U} spell old es fs (Err e) s.is q)
+        none_left spell old (es ++ fs) rest e {waiting = waiting} (sent_then {T = U} spell old es fs (Err e) s.is q)
 
     -- the first one that there is no memory for
     pub none_held : {T : Type 0} (r : Result T Error) → r ≡ Err e → error_kind e ≡ OutOfMemory
         → PutsBlocks w a b r later (old ++ print spell (all_behind (es ++ fs) rest))
     none_held {T} r is kind = rw is
-        (none_left {U = T} {waiting = mid} (es ++ fs) rest e
+        (none_left {U = T} spell old (es ++ fs) rest e {waiting = mid}
         (rest_unheld {T = T} spell old es fs (Err e) refl kind s.is))

@@ -9,8 +9,8 @@ use Rattle.index_events.proofs.untracked.append_begin.Goals as goal
 pub returns : goal.returns
 unfolding cache_begin
 returns g c =
-    let many = sym (length-map c.directories.result.now directory_value)
-    ∙ ap (λ (ds : List DirectoryValue). length ds) c.directories.ensures in
+    let many = sym (length-map c.directories-count.result.now directory_value)
+    ∙ ap (λ (ds : List DirectoryValue). length ds) c.directories-count.ensures in
     (end_all g.P.Printer.spell c.put_all.result c.put_all.new.self.bytes.items _
     (cache_begin (cache_of c.args.cache.now))
     (rw (
