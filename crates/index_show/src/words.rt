@@ -118,7 +118,6 @@ fn level_at(at: Where) -> u32
 }
 
 /// The indent of so many levels.
-#[tactic(auto, unfolding(crate::specs::Words::indent))]
 pub fn indent_of<'a>(level: u32) -> &'a [u8]
     requires { level ≤ 34 }
     ensures { result.now ≡ indent level }
