@@ -1,6 +1,6 @@
 //! Events as JSON, with an object on a line of its own for each part.
 
-ghost use Rattle.std.specs.Prelude.{◌≡◌, ◌++◌, codes};
+ghost use Rattle.std.specs.Prelude.{◌≡◌, ◌++◌, codes, decimal};
 ghost use Rattle.std.specs.Option.{option_map};
 ghost use Rattle.index_events.specs.Event.{Adds, record_at};
 ghost use Rattle.index_state.specs.State.{contents};
@@ -86,14 +86,22 @@ fn append_end_line(text: &mut Vec<u8>, at: Where, bracket: &[u8]) -> Appended
     text.extend_from_slice(b"}\n")
 }
 
+/// Appends how many entries there are, and the end of the first line.
+fn append_num_entries(text: &mut Vec<u8>, count: usize) -> Appended
+    ensures { Adds result text.old text.new
+        (codes ",\"num_entries\":" ++ decimal count ++ codes "}\n") }
+{
+    text.extend_from_slice(b",\"num_entries\":")?;
+    append_decimal(text, count as u64)?;
+    text.extend_from_slice(b"}\n")
+}
+
 /// Appends the begin of an array, or the end of the first line where it is that of the entries.
 fn append_begin_list(text: &mut Vec<u8>, at: Where, count: usize) -> Appended
     ensures { Adds result text.old text.new (begin_list at count) }
 {
     if let Where::Member(Key::Entries, _, _) = at {
-        text.extend_from_slice(b",\"num_entries\":")?;
-        append_decimal(text, count as u64)?;
-        return text.extend_from_slice(b"}\n");
+        return append_num_entries(text, count);
     }
     append_begin_line(text, at, b"[")
 }

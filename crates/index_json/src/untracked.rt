@@ -49,7 +49,6 @@ fn append_optional_stat(text: &mut Vec<u8>, position: Position<'_>, stat: Option
 }
 
 /// Appends the facts on a directory, as the first members of its object.
-#[tactic(auto, unfolding(crate::specs::Json::directory_members))]
 pub fn append_facts(text: &mut Vec<u8>, directory: &Directory) -> Appended
     ensures { Adds result text.old text.new (directory_members (directory_value directory.now)) }
 {
