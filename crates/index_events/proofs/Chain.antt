@@ -1,5 +1,6 @@
 -- Events that are told behind others.
-use Rattle.std.proofs.Common.{◌≡◌, ℕ, List, ◌++◌, Result, Ok, Err, ap, append_assoc, refl, sym, subst, ◌∙◌}
+use Rattle.std.proofs.Common.{◌≡◌, ℕ, List, [], ◌∷◌, ◌++◌, Result, Ok, Err, ap, append-nil, append_assoc, refl, sym}
+use Rattle.std.proofs.Common.{subst, ◌∙◌}
 use Rattle.std.proofs.lemmas.Grind.{flat_map-append}
 use Rattle.std.specs.IoError.{error_kind}
 use Rattle.std.specs.declared.io.Error.{Error}
@@ -65,21 +66,57 @@ pub rest_unheld : {S T U : Type 0} {w : Ghosts S} {a b : S} {x : U} (spell : Eve
     → PutsBlocks w a b r later (old ++ print spell (es ++ fs))
 rest_unheld spell old es fs r is kind p = no_memory r (print spell fs) is kind p (printed_more spell old es fs)
 
--- what breaks off in the first ones of six lists of events
-module _ {S : Type 0} (w : Ghosts S) (a b : S) (spell : Event → List ℕ) (old waiting later : List ℕ) (e : Error)
-    (e1 e2 e3 e4 e5 e6 : List Event) where
-  pub in_five : PutsBlocks {T = Unit {0}} w a b (Err e) waiting (old ++ print spell ((((e1 ++ e2) ++ e3) ++ e4) ++ e5))
-      → PutsBlocks {T = Unit {0}} w a b (Err e) later (old ++ print spell (((((e1 ++ e2) ++ e3) ++ e4) ++ e5) ++ e6))
-  in_five p = rest_untold spell old ((((e1 ++ e2) ++ e3) ++ e4) ++ e5) e6 e p
+-- ---- calls one behind another
 
-  pub in_four : PutsBlocks {T = Unit {0}} w a b (Err e) waiting (old ++ print spell (((e1 ++ e2) ++ e3) ++ e4))
-      → PutsBlocks {T = Unit {0}} w a b (Err e) later (old ++ print spell (((((e1 ++ e2) ++ e3) ++ e4) ++ e5) ++ e6))
-  in_four p = in_five (rest_untold spell old (((e1 ++ e2) ++ e3) ++ e4) e5 e p)
+-- these events were sent
+pub record Sent {S : Type 0} (w : Ghosts S) (a b : S) (spell : Event → List ℕ) (old waiting : List ℕ)
+    (es : List Event) : Type 0 where
+  pub is : PutsBlocks {T = Unit {0}} w a b (Ok tt) waiting (old ++ print spell es)
 
-  pub in_three : PutsBlocks {T = Unit {0}} w a b (Err e) waiting (old ++ print spell ((e1 ++ e2) ++ e3))
-      → PutsBlocks {T = Unit {0}} w a b (Err e) later (old ++ print spell (((((e1 ++ e2) ++ e3) ++ e4) ++ e5) ++ e6))
-  in_three p = in_four (rest_untold spell old ((e1 ++ e2) ++ e3) e4 e p)
+-- lists behind the first one
+abbrev pub all_behind : List Event → List (List Event) → List Event
+all_behind es [] = es
+all_behind es (fs ∷ rest) = all_behind (es ++ fs) rest
 
-  pub in_two : PutsBlocks {T = Unit {0}} w a b (Err e) waiting (old ++ print spell (e1 ++ e2))
-      → PutsBlocks {T = Unit {0}} w a b (Err e) later (old ++ print spell (((((e1 ++ e2) ++ e3) ++ e4) ++ e5) ++ e6))
-  in_two p = in_three (rest_untold spell old (e1 ++ e2) e3 e p)
+-- behind a failure nothing of the other lists is told
+pub none_left : {S T U : Type 0} {w : Ghosts S} {a b : S} (spell : Event → List ℕ) (old : List ℕ) (es : List Event)
+    (rest : List (List Event)) (e : Error) {waiting later : List ℕ}
+    → PutsBlocks {T = U} w a b (Err e) waiting (old ++ print spell es)
+    → PutsBlocks {T = T} w a b (Err e) later (old ++ print spell (all_behind es rest))
+none_left spell old es [] e p = record { ok = tt; err = p.err; going = tt; cause = p.cause; loan = p.loan }
+none_left {T = T} {U = U} spell old es (fs ∷ rest) e {waiting = waiting} p =
+    none_left {T = T} {U = T} spell old (es ++ fs) rest e {waiting = waiting}
+    (rest_untold {T = T} {U = U} spell old es fs e {later = waiting} p)
+
+module _ {S : Type 0} {w : Ghosts S} {a : S} {spell : Event → List ℕ} {old : List ℕ} where
+  -- the first event waits
+  pub begun : {new : List ℕ} (e : Event) → new ≡ old ++ spell e → Sent w a a spell old new (e ∷ [])
+  begun e h = record {
+    is = first_sent spell old (e ∷ []) (h ∙ ap (λ (l : List ℕ). old ++ l) (sym (append-nil (spell e))));
+  }
+
+  module _ {b : S} {mid later : List ℕ} {es : List Event} (fs : List Event) (s : Sent w a b spell old mid es) where
+    -- a call sent more
+    pub and_sent : {T : Type 0} {c : S} {x : T} → PutsBlocks w b c (Ok x) later (mid ++ print spell fs)
+        → Sent w a c spell old later (es ++ fs)
+    and_sent {x = x} q = record { is = done_as (sent_then spell old es fs (Ok x) s.is q) }
+
+    -- a call appended more
+    pub and_told : later ≡ mid ++ print spell fs → Sent w a b spell old later (es ++ fs)
+    and_told q = record { is = told_then spell old es fs s.is q }
+
+  module _ {b : S} {mid later : List ℕ} {es : List Event} (fs : List Event) (rest : List (List Event))
+      (s : Sent w a b spell old mid es) {e : Error} where
+    -- the first call that breaks off
+    pub first_broken : {T U : Type 0} {c : S} {waiting : List ℕ}
+        → PutsBlocks {T = U} w b c (Err e) waiting (mid ++ print spell fs)
+        → PutsBlocks {T = T} w a c (Err e) later (old ++ print spell (all_behind (es ++ fs) rest))
+    first_broken {U = U} {waiting = waiting} q =
+        none_left spell old (es ++ fs) rest e {waiting = waiting} (sent_then {T = U} spell old es fs (Err e) s.is q)
+
+    -- the first one that there is no memory for
+    pub none_held : {T : Type 0} (r : Result T Error) → r ≡ Err e → error_kind e ≡ OutOfMemory
+        → PutsBlocks w a b r later (old ++ print spell (all_behind (es ++ fs) rest))
+    none_held {T} r is kind = rw is
+        (none_left {U = T} spell old (es ++ fs) rest e {waiting = mid}
+        (rest_unheld {T = T} spell old es fs (Err e) refl kind s.is))

@@ -1,5 +1,5 @@
--- All that is told of an index file (the library's own).
-use Rattle.std.specs.Prelude.{ℕ, List, [], ◌∷◌, ◌++◌, codes, length, Option}
+-- All events of an index file (the library's own).
+use Rattle.std.specs.Prelude.{ℕ, List, [], ◌∷◌, ◌++◌, length, Option}
 use Rattle.index_entries.specs.EntryImage.{version_code}
 use Rattle.index_entries.specs.Record.{Record}
 use Rattle.index_format.specs.Contents.{Contents}
@@ -7,9 +7,11 @@ use Rattle.index_format.specs.Outcome.{Outcome}
 use Rattle.index_marks.specs.declared.Marks.{Marks}
 use Rattle.index_parts.specs.declared.hash.ObjectId.{ObjectId}
 use Rattle.index_events.specs.declared.event.Datum.TheVariants.{Answer, Id, Number}
+use Rattle.index_events.specs.declared.event.Key.TheVariants as keys
+use Rattle.index_events.specs.declared.event.Where.TheVariants.{Alone, Member}
 use Rattle.index_events.specs.Bitmaps.{link_events, monitor_events}
-use Rattle.index_events.specs.Event.{Event, alone, begin_array, begin_object, datum_field, end_array, end_object}
-use Rattle.index_events.specs.Event.{end_text, entry_item, first, line_field, listed, next}
+use Rattle.index_events.specs.Event.{Event, begin_array, begin_object, datum_field, end_array, end_object}
+use Rattle.index_events.specs.Event.{end_text, entry_item, listed}
 use Rattle.index_events.specs.Marks.{marks_events}
 use Rattle.index_events.specs.Trees.{cached_tree_events}
 use Rattle.index_events.specs.Undo.{undo_events}
@@ -19,10 +21,10 @@ use Rattle.index_events.specs.Untracked.{untracked_events}
 -- entries there are
 unfoldable pub head_events : Contents → Option ObjectId → List Event
 head_events c checksum =
-    begin_object alone ∷ datum_field [] (codes "version") (first (codes "version")) (Number (version_code c.version))
-    ∷ datum_field [] (codes "checksum") (next (codes "checksum")) (Id checksum)
-    ∷ datum_field [] (codes "sparse") (next (codes "is_sparse")) (Answer c.extensions.sparse)
-    ∷ line_field [] (codes "entries") (Number (length c.records)) ∷ begin_array (next (codes "entries")) ∷ []
+    begin_object Alone ∷ datum_field (Member keys.Version 0 0) (Number (version_code c.version))
+    ∷ datum_field (Member keys.Checksum 0 1) (Id checksum)
+    ∷ datum_field (Member keys.IsSparse 0 2) (Answer c.extensions.sparse)
+    ∷ begin_array (Member keys.Entries 0 3) (length c.records) ∷ []
 
 abbrev pub entry_events : ℕ → Record → List Event
 entry_events place r = entry_item place r ∷ []
@@ -30,13 +32,14 @@ entry_events place r = entry_item place r ∷ []
 -- the last extension that holds a value, the offset table and the end marker, and the end
 unfoldable pub last_events : Outcome → Marks → List Event
 last_events o marks =
-    monitor_events o.fs_monitor ++ marks_events o.had_offset_table o.had_end_marker marks ++ end_object ∷ end_text ∷ []
+    monitor_events o.fs_monitor ++ marks_events o.had_offset_table o.had_end_marker marks
+    ++ end_object Alone ∷ end_text ∷ []
 
 -- what stands behind the entries
 unfoldable pub behind_events : Outcome → Marks → List Event
 behind_events o marks =
-    end_array ∷ cached_tree_events o.tree ++ link_events o.link ++ undo_events o.resolve_undo
-    ++ untracked_events o.untracked ++ last_events o marks
+    end_array (Member keys.Entries 0 3) ∷ cached_tree_events o.tree ++ link_events o.link
+    ++ undo_events o.resolve_undo ++ untracked_events o.untracked ++ last_events o marks
 
 -- the parts one after another
 unfoldable pub document_events : Contents → Option ObjectId → Marks → List Event

@@ -1,54 +1,41 @@
--- What is told of an index, as a list of events: what a printer for people and one for programs both print (the
--- library's own). Each field is told once, with what each of them calls it.
-use Rattle.std.specs.Prelude.{◌≡◌, ℕ, Bool, List, [], ◌++◌, OnOk, Result}
+-- The events of an index, as a list: a begin, a value or an end each, with its place in the structure (the library's
+-- own). Names, words, commas and indents are the printers'.
+use Rattle.std.specs.Prelude.{◌≡◌, ℕ, List, [], ◌++◌, OnOk, Option, Result}
 use Rattle.std.specs.declared.io.Error.{Error}
 use Rattle.std.specs.Global.{Vec}
 use Rattle.std.specs.List.{enumerate_from, flat_map}
+use Rattle.std.specs.Option.{option_map}
 use Rattle.index_bitmaps.specs.declared.ranges.Range.{Range}
 use Rattle.index_entries.specs.Record.{Record, record_in}
 use Rattle.index_entries.specs.declared.Entry.{Entry}
-use Rattle.index_metadata.specs.declared.entry.stat.Stat.{Stat}
 use Rattle.index_parts.specs.declared.hash.io.Out.{Ghosts}
 use Rattle.index_text.specs.Blocks.{PutsBlocks}
+use Rattle.index_untracked.specs.Blocks.{DirectoryValue, directory_value}
+use Rattle.index_untracked.specs.declared.OidStat.{OidStat}
 use Rattle.index_events.specs.declared.event.Datum.{Datum}
 use Rattle.index_events.specs.declared.event.Event.{Event as RustEvent}
 use Rattle.index_events.specs.declared.event.Event.TheVariants as events
-use Rattle.index_events.specs.declared.event.Member.{Member}
-use Rattle.index_events.specs.declared.event.Member.TheVariants as members
+use Rattle.index_events.specs.declared.event.Where.{Where}
 use Rattle.index_events.specs.declared.printer.Text.{Text}
 
--- Where a value stands for programs: by itself, as the first member of an object or as another one, with its name, or in
--- an array at a place.
-pub data Position : Type 0 where
-  alone : Position
-  first : List ℕ → Position
-  next : List ℕ → Position
-  element : ℕ → Position
-
-abbrev pub position_of : Member → Position
-position_of members.Alone = alone
-position_of (members.First name) = first name.now
-position_of (members.Next name) = next name.now
-position_of (members.Element place) = element place
-
--- A field has for people what stands before it in its line and what it is called there, and a position for programs.
 pub data Event : Type 0 where
-  datum_field : (indent words : List ℕ) → Position → Datum → Event
-  text_field : (indent words : List ℕ) → Position → List ℕ → Event
-  ranges_field : (indent words : List ℕ) → Position → List Range → Event
-  -- what a file system has of a file, and whether its lines stand a level further in than those of an entry's
-  stat_field : Bool → Position → Stat → Event
+  datum_field : Where → Datum → Event
+  text_field : Where → List ℕ → Event
+  ranges_field : Where → List Range → Event
   -- an entry, and its place among the entries
   entry_item : ℕ → Record → Event
-  -- lines alone have headings, and some fields
-  heading : (indent words : List ℕ) → Event
-  line_field : (indent words : List ℕ) → Datum → Event
-  -- a text for programs alone has other fields, brackets and an end
-  hidden_field : Position → Datum → Event
-  begin_object : Position → Event
-  end_object : Event
-  begin_array : Position → Event
-  end_array : Event
+  -- the id and the stat of a file of exclude patterns
+  exclude_file : Where → Option OidStat → Event
+  -- the first members of the object of a directory of the untracked cache: its name, its stat, the id of its file of
+  -- exclude patterns, and whether it was only checked
+  directory_facts : DirectoryValue → Event
+  begin_object : Where → Event
+  -- an object whose last member is an array, and how many elements that has
+  begin_collection : Where → ℕ → Event
+  end_object : Where → Event
+  -- an array, and how many elements it has
+  begin_array : Where → ℕ → Event
+  end_array : Where → Event
   end_text : Event
 
 -- the record of this path and an entry's other parts
@@ -57,18 +44,17 @@ record_at path e = record (record_in [] e) { path = path }
 
 -- an event in memory
 abbrev pub told : RustEvent → Event
-told (events.Value indent words member d) = datum_field indent.now words.now (position_of member) d
-told (events.Bytes indent words member bytes) = text_field indent.now words.now (position_of member) bytes.now
-told (events.Ranges indent words member ranges) = ranges_field indent.now words.now (position_of member) ranges.now
-told (events.FileStat further member stat) = stat_field further (position_of member) stat
+told (events.Value at d) = datum_field at d
+told (events.Bytes at bytes) = text_field at bytes.now
+told (events.Ranges at ranges) = ranges_field at ranges.now
 told (events.EntryAt place entry path) = entry_item place (record_at path.now entry.now)
-told (events.Heading indent words) = heading indent.now words.now
-told (events.Line indent words d) = line_field indent.now words.now d
-told (events.Hidden member d) = hidden_field (position_of member) d
-told (events.BeginObject member) = begin_object (position_of member)
-told events.EndObject = end_object
-told (events.BeginArray member) = begin_array (position_of member)
-told events.EndArray = end_array
+told (events.ExcludeFile at file) = exclude_file at (option_map (λ f. f.now) file)
+told (events.DirectoryFacts directory) = directory_facts (directory_value directory.now)
+told (events.BeginObject at) = begin_object at
+told (events.BeginCollection at count) = begin_collection at count
+told (events.EndObject at) = end_object at
+told (events.BeginArray at count) = begin_array at count
+told (events.EndArray at) = end_array at
 told events.EndText = end_text
 
 -- events one after another, each as a printer spells it

@@ -7,10 +7,9 @@ ghost use Rattle.index_events.specs.Event.{Sends, Tells, print};
 
 use crate::bitmaps::{append_link, append_monitor};
 use crate::event::Datum::{Answer, Id, Number};
-use crate::event::Event::{
-    BeginArray, BeginObject, EndArray, EndObject, EndText, EntryAt, Line, Value,
-};
-use crate::event::Member::{Alone, First, Next};
+use crate::event::Event::{BeginArray, BeginObject, EndArray, EndObject, EndText, EntryAt, Value};
+use crate::event::Key;
+use crate::event::Where::{Alone, Member};
 use crate::marks::{append_end, append_table};
 use crate::printer::{Printer, Text};
 use crate::trees::write_tree;
@@ -25,7 +24,7 @@ use index_text::block::{put_block, put_text};
 use std::alloc::Global;
 use std::io;
 
-/// Tells what stands before the entries.
+/// Puts what stands before the entries.
 #[tactic(auto, unfolding(crate::specs::Document::head_events))]
 fn append_head<P: Printer>(text: &mut Text, state: &State, checksum: Option<ObjectId>) -> Appended
     ensures { Tells P.spell result text.old text.new (head_events (contents state.now) checksum) }
@@ -34,15 +33,14 @@ fn append_head<P: Printer>(text: &mut Text, state: &State, checksum: Option<Obje
     let sparse = Answer(state.is_sparse());
     text.put_all::<P>(&[
         BeginObject(Alone),
-        Value(b"", b"version", First(b"version"), version),
-        Value(b"", b"checksum", Next(b"checksum"), Id(checksum)),
-        Value(b"", b"sparse", Next(b"is_sparse"), sparse),
-        Line(b"", b"entries", Number(state.entries().len() as u64)),
-        BeginArray(Next(b"entries")),
+        Value(Member(Key::Version, 0, 0), version),
+        Value(Member(Key::Checksum, 0, 1), Id(checksum)),
+        Value(Member(Key::IsSparse, 0, 2), sparse),
+        BeginArray(Member(Key::Entries, 0, 3), state.entries().len()),
     ])
 }
 
-/// Tells the file system monitor, the offset table and the end marker, and the end.
+/// Puts the file system monitor, the offset table and the end marker, and the end.
 #[tactic(auto, unfolding(crate::specs::Document::last_events))]
 fn append_last<P: Printer>(text: &mut Text, state: &State, marks: &Marks) -> Appended
     ensures { Tells P.spell result text.old text.new
@@ -52,10 +50,10 @@ fn append_last<P: Printer>(text: &mut Text, state: &State, marks: &Marks) -> App
     append_monitor::<P>(text, state.fs_monitor())?;
     append_table::<P>(text, table, &marks.table)?;
     append_end::<P>(text, marker, marks.end)?;
-    text.put_all::<P>(&[EndObject, EndText])
+    text.put_all::<P>(&[EndObject(Alone), EndText])
 }
 
-/// Tells what stands behind the entries; what fills a block goes out.
+/// Puts what stands behind the entries; what fills a block goes out.
 fn write_behind<P: Printer, W: Out>(
     text: &mut Text,
     state: &State,
@@ -65,7 +63,7 @@ fn write_behind<P: Printer, W: Out>(
     ensures { Sends P.spell W.Out out.old out.new result text.old text.new
         (behind_events (contents state.now).extensions marks.now) }
 {
-    P::put(text, EndArray)?;
+    P::put(text, EndArray(Member(Key::Entries, 0, 3)))?;
     write_tree::<P, W>(text, state.tree(), out)?;
     append_link::<P>(text, state.link())?;
     write_undo::<P, W>(text, state.resolve_undo(), out)?;

@@ -1,26 +1,99 @@
-//! What a printer is told, an event at a time.
+//! What a printer is given, an event at a time: the structure, and the values in it.
 
 use index_bitmaps::ranges::Range;
 use index_entries::Entry;
-use index_metadata::entry::Stat;
 use index_parts::hash::ObjectId;
 use index_small_extensions::index_entry_offset_table::Offset;
 use index_small_extensions::resolve_undo::Stage;
+use index_untracked::{Directory, OidStat};
 
-/// Where a value stands for programs.
+/// A field. Each printer has a table of what it calls them.
 #[derive(Clone, Copy)]
-pub enum Member<'a> {
-    /// By itself.
-    Alone,
-    /// The first member of an object, by its name.
-    First(&'a [u8]),
-    /// Another member of an object, by its name.
-    Next(&'a [u8]),
-    /// In an array, at a place that is counted from 0.
-    Element(usize),
+pub enum Key {
+    // the index
+    Version,
+    Checksum,
+    IsSparse,
+    Entries,
+    Tree,
+    Link,
+    ResolveUndo,
+    Untracked,
+    FsMonitor,
+    HadOffsetTable,
+    OffsetTable,
+    HadEndOfIndexMarker,
+    EndOfIndexMarker,
+    // a directory of the cached tree
+    DirectoryName,
+    DirectoryId,
+    NumEntries,
+    Children,
+    // the link to a shared index
+    SharedIndexChecksum,
+    Bitmaps,
+    Delete,
+    Replace,
+    // a bitmap
+    NumBits,
+    SetBits,
+    IsMalformed,
+    // a path that was in conflict
+    ResolvedPath,
+    Stages,
+    // the untracked cache
+    Identifier,
+    DirFlags,
+    ExcludeFilenamePerDir,
+    InfoExclude,
+    ExcludesFile,
+    Directories,
+    // a directory of the untracked cache
+    UntrackedEntries,
+    UntrackedName,
+    SubDirectories,
+    // the file system monitor
+    NanosSince1970,
+    Token,
+    EntryDirty,
+    // the end marker
+    OffsetToExtensions,
+    EndChecksum,
 }
 
-/// What a field says.
+/// What an array has as its elements.
+#[derive(Clone, Copy)]
+pub enum Item {
+    /// A directory of the cached tree.
+    Child,
+    /// A path that was in conflict.
+    ResolvedPath,
+    /// The common ancestor's side of a conflict.
+    Base,
+    Ours,
+    Theirs,
+    /// A directory of the untracked cache.
+    Directory,
+    /// The name of an untracked file.
+    UntrackedEntry,
+    /// The place of a directory of the untracked cache.
+    SubDirectory,
+    /// A block of entries.
+    Block,
+}
+
+/// Where a value is. Depth is counted from 0, for the members of the object that is the whole text.
+#[derive(Clone, Copy)]
+pub enum Where {
+    /// By itself.
+    Alone,
+    /// A member of an object: its field, its depth, and its number among the members, from 0 on.
+    Member(Key, u32, u32),
+    /// An element of an array: what it is, its depth, and its position, from 0 on.
+    Element(Item, u32, usize),
+}
+
+/// A value.
 #[derive(Clone, Copy)]
 pub enum Datum {
     Number(u64),
@@ -40,28 +113,27 @@ pub enum Datum {
     Malformed,
 }
 
-/// What is told at once. A field has what stands before it in a line for people, what they read as its name, and where it
-/// stands for programs.
+/// A begin, a value or an end. What printers put in an order of their own is one value: an entry, a file of exclude
+/// patterns, and the facts on a directory of the untracked cache.
 #[derive(Clone, Copy)]
 pub enum Event<'a> {
-    Value(&'a [u8], &'a [u8], Member<'a>, Datum),
+    Value(Where, Datum),
     /// A text, which may be any bytes.
-    Bytes(&'a [u8], &'a [u8], Member<'a>, &'a [u8]),
+    Bytes(Where, &'a [u8]),
     /// Ranges of places.
-    Ranges(&'a [u8], &'a [u8], Member<'a>, &'a [Range]),
-    /// What a file system has of a file, and whether people read it a level further in than that of an entry.
-    FileStat(bool, Member<'a>, Stat),
-    /// An entry behind its place among the entries, and its path.
+    Ranges(Where, &'a [Range]),
+    /// An entry at its place among the entries, and its path.
     EntryAt(usize, &'a Entry, &'a [u8]),
-    /// What people read above what stands further in: its indent, and words.
-    Heading(&'a [u8], &'a [u8]),
-    /// A field that only people read.
-    Line(&'a [u8], &'a [u8], Datum),
-    /// A field that only programs read.
-    Hidden(Member<'a>, Datum),
-    BeginObject(Member<'a>),
-    EndObject,
-    BeginArray(Member<'a>),
-    EndArray,
+    /// A file of exclude patterns, by its id and its stat, or that there is none.
+    ExcludeFile(Where, Option<&'a OidStat>),
+    /// The first members of a directory's object: name, stat, exclude file, and whether it was only checked.
+    DirectoryFacts(&'a Directory),
+    BeginObject(Where),
+    /// The begin of an object whose last member is an array, and how many elements that has.
+    BeginCollection(Where, usize),
+    EndObject(Where),
+    /// The begin of an array, and how many elements it has.
+    BeginArray(Where, usize),
+    EndArray(Where),
     EndText,
 }

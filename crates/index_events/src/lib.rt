@@ -1,5 +1,5 @@
-//! What is told of an index, in one walk from a value to events, which a [`Printer`](printer::Printer) puts into text: for
-//! people or for programs.
+//! The events of an index, in one walk from a value to what a [`Printer`](printer::Printer) puts into text. An event is
+//! a begin, a value or an end, with its place in the structure.
 #![tactic(auto)]
 
 mod bitmaps;

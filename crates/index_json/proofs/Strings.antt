@@ -4,7 +4,7 @@ use Rattle.std.specs.Str.{IsUtf8, is_utf8}
 use Rattle.std.proofs.lemmas.Str.{IsUtf8-from_is_utf8, is_utf8-from_IsUtf8}
 use Rattle.json.specs.Print.{print, print_from, quoted}
 use Rattle.json.specs.Token.{Token, string}
-use Rattle.index_events.specs.Event.{Position}
+use Rattle.index_json.specs.Names.{Position}
 use Rattle.index_json.specs.Values.{begin_of, begin_with, hex_string, json_string, text_value}
 
 -- the text of one string

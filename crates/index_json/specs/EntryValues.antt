@@ -4,7 +4,7 @@ use Rattle.index_metadata.specs.Flags.{stage_number}
 use Rattle.index_entries.specs.Record.{Record}
 use Rattle.index_metadata.specs.declared.entry.stat.Stat.{Stat}
 use Rattle.index_metadata.specs.declared.entry.stat.Time.{Time}
-use Rattle.index_events.specs.Event.{first}
+use Rattle.index_json.specs.Names.{first}
 use Rattle.index_json.specs.Values.{id_member, member, number_member, text_value}
 
 abbrev pub time_value : Time → List ℕ

@@ -1,12 +1,12 @@
 -- The JSON text of events, and so all that an index file holds as one object on one line (the library's own; the text
 -- is that of RFC 8259).
-use Rattle.std.specs.Prelude.{List, ℕ, ◌-◌, [], ◌++◌, codes, decimal, true, false, Option, Some}
+use Rattle.std.specs.Prelude.{List, ℕ, ◌-◌, ◌++◌, codes, decimal, true, false, Option, Some, None}
 use Rattle.index_bitmaps.specs.declared.ranges.Range.{Range}
 use Rattle.index_events.specs.Document.{document_events}
 use Rattle.index_events.specs.declared.event.Datum.{Datum}
 use Rattle.index_events.specs.declared.event.Datum.TheVariants.{Answer, Block, Count, Id, Number, Side}
-use Rattle.index_events.specs.Event.{Event, begin_array, begin_object, datum_field, end_array, end_object, end_text}
-use Rattle.index_events.specs.Event.{entry_item, heading, hidden_field, line_field, print, ranges_field, stat_field}
+use Rattle.index_events.specs.Event.{Event, begin_array, begin_collection, begin_object, datum_field, directory_facts}
+use Rattle.index_events.specs.Event.{end_array, end_object, end_text, entry_item, exclude_file, print, ranges_field}
 use Rattle.index_events.specs.Event.{text_field}
 use Rattle.index_format.specs.Contents.{Contents}
 use Rattle.index_marks.specs.declared.Marks.{Marks}
@@ -14,7 +14,11 @@ use Rattle.index_parts.specs.Id.{id_bytes}
 use Rattle.index_parts.specs.declared.hash.ObjectId.{ObjectId}
 use Rattle.index_small_extensions.specs.declared.index_entry_offset_table.Offset.{Offset}
 use Rattle.index_small_extensions.specs.declared.resolve_undo.Stage.{Stage}
+use Rattle.index_metadata.specs.declared.entry.stat.Stat.{Stat}
+use Rattle.index_untracked.specs.Blocks.{DirectoryValue}
+use Rattle.index_untracked.specs.declared.OidStat.{OidStat}
 use Rattle.index_json.specs.EntryValues.{entry_value, stat_value}
+use Rattle.index_json.specs.Names.{first, next, position_of}
 use Rattle.index_json.specs.Values.{array, begin_of, hex_string, id_member, number_member, separator, text_value}
 
 -- a range's first place, and how many places it has
@@ -43,20 +47,38 @@ datum_value (Block block) = block_value block
 datum_value (Count (Some n)) = decimal n
 datum_value d = codes "null"
 
--- the text of an event; headings and lines have none
+-- a stat, or that there is none
+unfoldable pub optional_stat : Option Stat → List ℕ
+optional_stat None = codes "null"
+optional_stat (Some s) = stat_value s
+
+-- the stat and the id of a file of exclude patterns, or that there is none
+unfoldable pub exclude_value : Option OidStat → List ℕ
+exclude_value None = codes "null"
+exclude_value (Some file) =
+    codes "{" ++ (begin_of (first (codes "stat")) ++ stat_value file.stat)
+    ++ (begin_of (next (codes "id")) ++ datum_value (Id (Some file.id))) ++ codes "}"
+
+-- the first members of a directory of an untracked cache
+unfoldable pub directory_members : DirectoryValue → List ℕ
+directory_members d =
+    text_value (first (codes "name")) d.name ++ (begin_of (next (codes "stat")) ++ optional_stat d.stat)
+    ++ (begin_of (next (codes "exclude_file_oid")) ++ datum_value (Id d.exclude))
+    ++ (begin_of (next (codes "check_only")) ++ datum_value (Answer d.check_only))
+
+-- the text of an event
 abbrev pub event_text : Event → List ℕ
-event_text (datum_field indent words position d) = begin_of position ++ datum_value d
-event_text (text_field indent words position bytes) = text_value position bytes
-event_text (ranges_field indent words position ranges) = begin_of position ++ array range_value ranges
-event_text (stat_field further position s) = begin_of position ++ stat_value s
+event_text (datum_field at d) = begin_of (position_of at) ++ datum_value d
+event_text (text_field at bytes) = text_value (position_of at) bytes
+event_text (ranges_field at ranges) = begin_of (position_of at) ++ array range_value ranges
 event_text (entry_item place r) = separator place ++ entry_value r
-event_text (heading indent words) = []
-event_text (line_field indent words d) = []
-event_text (hidden_field position d) = begin_of position ++ datum_value d
-event_text (begin_object position) = begin_of position ++ codes "{"
-event_text end_object = codes "}"
-event_text (begin_array position) = begin_of position ++ codes "["
-event_text end_array = codes "]"
+event_text (exclude_file at file) = begin_of (position_of at) ++ exclude_value file
+event_text (directory_facts d) = directory_members d
+event_text (begin_object at) = begin_of (position_of at) ++ codes "{"
+event_text (begin_collection at count) = begin_of (position_of at) ++ codes "{"
+event_text (end_object at) = codes "}"
+event_text (begin_array at count) = begin_of (position_of at) ++ codes "["
+event_text (end_array at) = codes "]"
 event_text end_text = codes "\n"
 
 -- one object, and a newline

@@ -8,7 +8,7 @@ use Rattle.hex.specs.Hex.{encode_lower}
 use Rattle.json.specs.Print.{quoted}
 use Rattle.index_parts.specs.Id.{id_bytes}
 use Rattle.index_parts.specs.declared.hash.ObjectId.{ObjectId}
-use Rattle.index_events.specs.Event.{Position, alone, element, first, next}
+use Rattle.index_json.specs.Names.{Position, alone, element, first, next}
 
 -- a string of these bytes, which are UTF-8
 abbrev pub json_string : List ℕ → List ℕ

@@ -1,14 +1,15 @@
 //! What a field says, as a value: a number, an id, ranges, a side of a conflict, a block of entries.
 
 ghost use Rattle.std.specs.Prelude.{◌++◌};
-ghost use Rattle.index_events.specs.Event.{Adds, position_of};
+ghost use Rattle.index_events.specs.Event.{Adds};
 ghost use Rattle.index_json.specs.Json.{datum_value, range_value};
+ghost use Rattle.index_json.specs.Names.{as_position};
 ghost use Rattle.index_json.specs.Values.{array, begin_of};
 
+use crate::position::Position;
 use crate::values::{append_begin, append_id, append_piece, append_separator};
 use index_bitmaps::ranges::Range;
 use index_events::event::Datum::{self, Absent, Answer, Block, Count, Id, Malformed, Number, Side};
-use index_events::event::Member;
 use index_text::append::{Appended, append_decimal};
 
 /// Appends a range.
@@ -24,11 +25,11 @@ fn append_range(text: &mut Vec<u8>, range: Range) -> Appended
 }
 
 /// Appends an array of ranges at its position.
-pub fn append_ranges(text: &mut Vec<u8>, member: Member<'_>, ranges: &[Range]) -> Appended
+pub fn append_ranges(text: &mut Vec<u8>, position: Position<'_>, ranges: &[Range]) -> Appended
     ensures { Adds result text.old text.new
-        (begin_of (position_of member.entry) ++ array range_value ranges.now) }
+        (begin_of (as_position position.entry) ++ array range_value ranges.now) }
 {
-    append_piece(text, member, b"[")?;
+    append_piece(text, position, b"[")?;
     for (place, range) in ranges.iter().enumerate() {
         append_separator(text, place)?;
         append_range(text, *range)?;
@@ -66,10 +67,10 @@ fn append_value(text: &mut Vec<u8>, datum: Datum) -> Appended
 }
 
 /// Appends what a field says at its position.
-pub fn append_datum(text: &mut Vec<u8>, member: Member<'_>, datum: Datum) -> Appended
+pub fn append_datum(text: &mut Vec<u8>, position: Position<'_>, datum: Datum) -> Appended
     ensures { Adds result text.old text.new
-        (begin_of (position_of member.entry) ++ datum_value datum) }
+        (begin_of (as_position position.entry) ++ datum_value datum) }
 {
-    append_begin(text, member, b"\":")?;
+    append_begin(text, position, b"\":")?;
     append_value(text, datum)
 }

@@ -4,14 +4,9 @@ ghost use Rattle.index_state.specs.State.{contents};
 ghost use Rattle.index_text.specs.Blocks.{PutsText};
 ghost use Rattle.index_json.specs.Json.{event_text, json_text};
 
-use crate::data::{append_datum, append_ranges};
-use crate::entries::{append_entry, append_stat};
-use crate::values::{append_piece, append_text};
+use crate::events::append_event;
 use index_events::document::write_document;
-use index_events::event::Event::{
-    self, BeginArray, BeginObject, Bytes, EndArray, EndObject, EndText, EntryAt, FileStat, Heading,
-    Hidden, Line, Ranges, Value,
-};
+use index_events::event::Event;
 use index_events::printer::{Printer, Text};
 use index_marks::Marks;
 use index_parts::hash::ObjectId;
@@ -29,21 +24,7 @@ impl Printer for Json {
 
     #[inline(always)]
     fn put(text: &mut Text, event: Event<'_>) -> Appended {
-        let text = &mut text.bytes;
-        match event {
-            Value(_, _, member, datum) => append_datum(text, member, datum),
-            Bytes(_, _, member, bytes) => append_text(text, member, bytes),
-            Ranges(_, _, member, ranges) => append_ranges(text, member, ranges),
-            FileStat(_, member, stat) => append_stat(text, member, stat),
-            EntryAt(place, entry, path) => append_entry(text, place, entry, path),
-            Heading(_, _) | Line(_, _, _) => Ok(()),
-            Hidden(member, datum) => append_datum(text, member, datum),
-            BeginObject(member) => append_piece(text, member, b"{"),
-            EndObject => text.extend_from_slice(b"}"),
-            BeginArray(member) => append_piece(text, member, b"["),
-            EndArray => text.extend_from_slice(b"]"),
-            EndText => text.extend_from_slice(b"\n"),
-        }
+        append_event(&mut text.bytes, event)
     }
 }
 

@@ -2,15 +2,16 @@
 
 ghost use Rattle.std.specs.Prelude.{◌+◌, [], ◌++◌, decimal, length};
 ghost use Rattle.index_entries.specs.Record.{record_in};
-ghost use Rattle.index_events.specs.Event.{Adds, position_of, record_at};
+ghost use Rattle.index_events.specs.Event.{Adds, record_at};
 ghost use Rattle.index_text.specs.Prepending.{HasRoom, Prepends};
 ghost use Rattle.index_json.specs.EntryValues.{behind_path, entry_value, stat_value, time_value};
+ghost use Rattle.index_json.specs.Names.{as_position};
 ghost use Rattle.index_json.specs.Values.{begin_of, separator};
 
+use crate::position::Position;
 use crate::values::{append_piece, append_text};
 use bitflags::Flags as _;
 use index_entries::Entry;
-use index_events::event::Member;
 use index_metadata::entry::Stat;
 use index_metadata::entry::stat::Time;
 use index_text::append::Appended;
@@ -65,13 +66,13 @@ fn prepend_stat(room: &mut [u8], end: usize, stat: Stat) -> usize
 }
 
 /// Appends a stat at its position.
-pub fn append_stat(text: &mut Vec<u8>, member: Member<'_>, stat: Stat) -> Appended
+pub fn append_stat(text: &mut Vec<u8>, position: Position<'_>, stat: Stat) -> Appended
     ensures { Adds result text.old text.new
-        (begin_of (position_of member.entry) ++ stat_value stat) }
+        (begin_of (as_position position.entry) ++ stat_value stat) }
 {
     let mut room = [0; STAT_LEN];
     let start = prepend_stat(&mut room, STAT_LEN, stat);
-    append_piece(text, member, &room[start..])
+    append_piece(text, position, &room[start..])
 }
 
 /// Appends what an entry has behind its path.
@@ -103,6 +104,6 @@ pub fn append_entry(text: &mut Vec<u8>, place: usize, entry: &Entry, path: &[u8]
     } else {
         text.extend_from_slice(b",{")?;
     }
-    append_text(text, Member::First(b"path"), path)?;
+    append_text(text, Position::First(b"path"), path)?;
     append_behind_path(text, entry)
 }

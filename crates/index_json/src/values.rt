@@ -4,10 +4,11 @@ ghost use Rattle.std.specs.Prelude.{◌≡◌, ◌++◌};
 ghost use Rattle.index_parts.specs.Id.{id_bytes};
 ghost use Rattle.std.specs.Bool.{OnTrue};
 ghost use Rattle.json.specs.Print.{escape};
-ghost use Rattle.index_events.specs.Event.{Adds, position_of};
+ghost use Rattle.index_events.specs.Event.{Adds};
+ghost use Rattle.index_json.specs.Names.{as_position};
 ghost use Rattle.index_json.specs.Values.{begin_of, begin_with, hex_string, json_string, separator, text_value};
 
-use index_events::event::Member;
+use crate::position::Position;
 use index_parts::hash::ObjectId;
 use index_text::append::{Appended, append_hex};
 use json::Writer;
@@ -26,23 +27,23 @@ fn append_three(text: &mut Vec<u8>, one: &[u8], two: &[u8], three: &[u8]) -> App
 /// Appends what stands before a value at its position: a name that ends so, or a comma.
 #[inline(always)]
 #[tactic(auto, unfolding(crate::specs::Values::begin_with))]
-pub fn append_begin(text: &mut Vec<u8>, member: Member<'_>, end: &[u8]) -> Appended
-    ensures { Adds result text.old text.new (begin_with (position_of member.entry) end.now) }
+pub fn append_begin(text: &mut Vec<u8>, position: Position<'_>, end: &[u8]) -> Appended
+    ensures { Adds result text.old text.new (begin_with (as_position position.entry) end.now) }
 {
-    match member {
-        Member::Alone => Ok(()),
-        Member::First(name) => append_three(text, b"\"", name, end),
-        Member::Next(name) => append_three(text, b",\"", name, end),
-        Member::Element(place) => append_separator(text, place),
+    match position {
+        Position::Alone => Ok(()),
+        Position::First(name) => append_three(text, b"\"", name, end),
+        Position::Next(name) => append_three(text, b",\"", name, end),
+        Position::Element(place) => append_separator(text, place),
     }
 }
 
 /// Appends a value at its position.
 #[inline(always)]
-pub fn append_piece(text: &mut Vec<u8>, member: Member<'_>, value: &[u8]) -> Appended
-    ensures { Adds result text.old text.new (begin_of (position_of member.entry) ++ value.now) }
+pub fn append_piece(text: &mut Vec<u8>, position: Position<'_>, value: &[u8]) -> Appended
+    ensures { Adds result text.old text.new (begin_of (as_position position.entry) ++ value.now) }
 {
-    append_begin(text, member, b"\":")?;
+    append_begin(text, position, b"\":")?;
     text.extend_from_slice(value)
 }
 
@@ -96,16 +97,16 @@ fn append_bytes(text: &mut Vec<u8>, bytes: &[u8]) -> Appended
 }
 
 /// Appends a text as a string, or where it isn't UTF-8 the digits of its bytes, under a name that says so.
-pub fn append_text(text: &mut Vec<u8>, member: Member<'_>, bytes: &[u8]) -> Appended
-    ensures { Adds result text.old text.new (text_value (position_of member.entry) bytes.now) }
+pub fn append_text(text: &mut Vec<u8>, position: Position<'_>, bytes: &[u8]) -> Appended
+    ensures { Adds result text.old text.new (text_value (as_position position.entry) bytes.now) }
 {
     match str::from_utf8(bytes) {
         Ok(value) => {
-            append_begin(text, member, b"\":")?;
+            append_begin(text, position, b"\":")?;
             append_string(text, value)
         }
         Err(_) => {
-            append_begin(text, member, b"_bytes\":")?;
+            append_begin(text, position, b"_bytes\":")?;
             append_bytes(text, bytes)
         }
     }

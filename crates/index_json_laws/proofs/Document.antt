@@ -1,8 +1,6 @@
 -- The events of an index tell a value, whatever is told: parts that have no lists in them by computation, for each of
 -- their cases, and the others by those that they have.
-use Rattle.std.proofs.Common.{◌≡◌, ℕ, ◌+◌, Bool, true, false, List, [], ◌∷◌, ◌++◌, nat_lt, refl, codes, Option, Some}
-use Rattle.std.proofs.Common.{None}
-use Rattle.std.proofs.lemmas.Bool.{cond_both}
+use Rattle.std.proofs.Common.{◌≡◌, ℕ, ◌+◌, Bool, true, false, List, ◌++◌, refl, codes, Option, Some, None}
 use Rattle.std.specs.Option.{option_map}
 use Rattle.index_bitmaps.specs.Bitmap.{Bitmap}
 use Rattle.index_cached_tree.specs.Tree.{Node, Nodes, node, none, more}
@@ -10,7 +8,6 @@ use Rattle.index_entries.specs.Record.{Record}
 use Rattle.index_format.specs.Contents.{Contents}
 use Rattle.index_marks.specs.declared.EndMark.{EndMark}
 use Rattle.index_marks.specs.declared.Marks.{Marks}
-use Rattle.index_metadata.specs.declared.entry.stat.Stat.{Stat}
 use Rattle.index_parts.specs.declared.hash.ObjectId.{ObjectId}
 use Rattle.index_small_extensions.specs.FsMonitor.{Monitor, TokenValue, nanoseconds, opaque}
 use Rattle.index_small_extensions.specs.ResolveUndo.{PathStages}
@@ -18,20 +15,17 @@ use Rattle.index_small_extensions.specs.declared.index_entry_offset_table.Offset
 use Rattle.index_split.specs.Link.{BitmapPair, LinkValue}
 use Rattle.index_untracked.specs.Blocks.{DirectoryValue}
 use Rattle.index_untracked.specs.Untracked.{Cache}
-use Rattle.index_untracked.specs.declared.OidStat.{OidStat}
 use Rattle.index_events.specs.Bitmaps.{bitmap_events, link_events, monitor_events, pair_events, token_event}
 use Rattle.index_events.specs.Document.{behind_events, document_events, entry_events, head_events, last_events}
-use Rattle.index_events.specs.Event.{Event, element, line_field}
+use Rattle.index_events.specs.declared.event.Item.TheVariants as items
+use Rattle.index_events.specs.declared.event.Where.TheVariants.{Element}
 use Rattle.index_events.specs.Marks.{block_events, blocks_events, end_events, marker_events, table_events}
-use Rattle.index_events.specs.Trees.{all_tree_events, below, cached_tree_events, deepest_indent, depth_events, indent}
-use Rattle.index_events.specs.Trees.{opened_events, tree_events}
+use Rattle.index_events.specs.Trees.{all_tree_events, below, cached_tree_events, opened_events, tree_events}
 use Rattle.index_events.specs.Undo.{path_events, undo_events}
-use Rattle.index_events.specs.Untracked.{cache_begin, cached_events, exclude_events, name_events}
-use Rattle.index_events.specs.Untracked.{stat_events, subdirectory_events}
+use Rattle.index_events.specs.Untracked.{cache_begin, cached_events, name_events, subdirectory_events}
 use Rattle.index_events.specs.Untracked.{untracked_events}
-use Rattle.index_events.specs.declared.event.Datum.TheVariants.{Number}
 use Rattle.index_json.specs.Json.{json_text}
-use Rattle.index_json_laws.specs.Telling.{Behind, are_plain, document_value, told, value_of}
+use Rattle.index_json_laws.specs.Telling.{document_value, value_of}
 use Rattle.index_json_laws.specs.Value.{spelling}
 use Rattle.index_json_laws.proofs.Parts.{TellsItem, TellsItems, TellsMembers, item_and, item_told}
 use Rattle.index_json_laws.proofs.Parts.{listed_told, members_and, members_told, no_items_told, told_append}
@@ -43,33 +37,27 @@ entry_told r = item_told (λ place b. refl)
 
 -- ---- a cached tree
 
-depth_told : (depth : ℕ) (b : Behind) → told (depth_events depth) b ≡ b
-unfolding depth_events
-depth_told depth b =
-    cond_both (nat_lt deepest_indent depth)
-    (line_field (indent (deepest_indent + 2)) (codes "depth") (Number depth) ∷ []) []
-    (λ (events : List Event). told events b ≡ b) (λ e. refl) (λ e. refl)
-
 mutual
   unfolding opened_events
 
-  node_told : (depth : ℕ) (t : Node) → TellsItem (λ place. tree_events (element place) depth t)
+  node_told : (depth : ℕ) (t : Node)
+      → TellsItem (λ place. tree_events (Element items.Child (below depth 1) place) (below depth 2) t)
   node_told depth (node name id count children) =
-      let inside = whole_array _ (nodes_told 0 (below depth) children) in
-      item_told (λ place b. simp told_append (simp (depth_told, inside.is) refl))
+      let inside = whole_array _ (nodes_told 0 (below depth 2) children) in
+      item_told (λ place b. simp told_append (simp inside.is refl))
 
   nodes_told : (place depth : ℕ) (ts : Nodes) → TellsItems place (all_tree_events place depth ts)
   nodes_told place depth none = no_items_told place
   nodes_told place depth (more t ts) =
-      item_and place (λ p. tree_events (element p) depth t) (all_tree_events (place + 1) depth ts) (node_told depth t)
-      (nodes_told (place + 1) depth ts)
+      item_and place (λ p. tree_events (Element items.Child (below depth 1) p) (below depth 2) t)
+      (all_tree_events (place + 1) depth ts) (node_told depth t) (nodes_told (place + 1) depth ts)
 
 tree_told : (t : Option Node) → TellsMembers true (cached_tree_events t)
 unfolding opened_events
 tree_told None = members_told (λ ms b. refl)
 tree_told (Some (node name id count children)) =
-    let inside = whole_array _ (nodes_told 0 (below 0) children) in
-    members_told (λ ms b. simp told_append (simp (depth_told, inside.is) refl))
+    let inside = whole_array _ (nodes_told 0 1 children) in
+    members_told (λ ms b. simp told_append (simp inside.is refl))
 
 -- ---- bitmaps
 
@@ -110,17 +98,6 @@ undo_told (Some paths) =
 
 -- ---- an untracked cache
 
-exclude_told : (words name : List ℕ) (file : Option OidStat) → are_plain name ≡ true
-    → TellsMembers true (exclude_events words name file)
-unfolding exclude_events
-exclude_told words name None p = members_told (λ ms b. simp p refl)
-exclude_told words name (Some file) p = members_told (λ ms b. simp p refl)
-
-stat_told : (s : Option Stat) → TellsMembers true (stat_events s)
-unfolding stat_events
-stat_told None = members_told (λ ms b. refl)
-stat_told (Some s) = members_told (λ ms b. refl)
-
 name_told : (name : List ℕ) → TellsItem (λ place. name_events place name)
 unfolding name_events
 name_told name = item_told (λ place b. refl)
@@ -131,20 +108,16 @@ subdirectory_told n = item_told (λ place b. refl)
 directory_told : (d : DirectoryValue) → TellsItem (λ place. cached_events place d)
 unfolding cached_events
 directory_told d =
-    let stat = stat_told d.stat in
     let names = listed_told name_events name_told d.untracked in
     let places = listed_told subdirectory_events subdirectory_told d.subs in
-    item_told (λ place b. simp told_append (simp (stat.is, names.is, places.is) refl))
+    item_told (λ place b. simp told_append (simp (names.is, places.is) refl))
 
 cache_told : (cache : Option Cache) → TellsMembers true (untracked_events cache)
 unfolding cache_begin
 cache_told None = members_told (λ ms b. refl)
 cache_told (Some c) =
-    let p = c.preamble in
-    let info = exclude_told (codes "info/exclude") (codes "info_exclude") p.info_exclude refl in
-    let excludes = exclude_told (codes "excludes file") (codes "excludes_file") p.excludes_file refl in
     let inside = listed_told cached_events directory_told c.directories in
-    members_told (λ ms b. simp told_append (simp (info.is, excludes.is, inside.is) refl))
+    members_told (λ ms b. simp told_append (simp inside.is refl))
 
 -- ---- an offset table and an end marker
 

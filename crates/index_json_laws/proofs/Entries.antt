@@ -1,6 +1,6 @@
 -- The text of an entry is that of its value, and so are those of a stat, a range, a side and a block.
 use Rattle.std.proofs.Common.{◌≡◌, ℕ, List, ◌∷◌, ◌++◌, append_assoc, append-nil, ap, codes, decimal}
-use Rattle.std.proofs.Common.{Some, None, false, refl, true, ◌∙◌}
+use Rattle.std.proofs.Common.{Option, Some, None, false, refl, true, ◌∙◌}
 use Rattle.json.specs.Print.{escape_byte}
 use Rattle.index_bitmaps.specs.declared.ranges.Range.{Range}
 use Rattle.index_entries.specs.Record.{Record}
@@ -10,15 +10,18 @@ use Rattle.index_metadata.specs.declared.entry.stat.Time.{Time}
 use Rattle.index_parts.specs.Id.{id_bytes}
 use Rattle.index_small_extensions.specs.declared.index_entry_offset_table.Offset.{Offset}
 use Rattle.index_small_extensions.specs.declared.resolve_undo.Stage.{Stage}
+use Rattle.index_untracked.specs.declared.OidStat.{OidStat}
 use Rattle.index_json.specs.EntryValues.{entry_value, stat_value, time_value}
-use Rattle.index_json.specs.Json.{block_value, datum_value, range_value, side_value as written_side}
+use Rattle.index_json.specs.Json.{block_value, datum_value, exclude_value, optional_stat, range_value}
+use Rattle.index_json.specs.Json.{side_value as written_side}
 use Rattle.index_json.specs.Values.{array as written_array, member as written_member}
 use Rattle.index_events.specs.declared.event.Datum.{Datum}
 use Rattle.index_events.specs.declared.event.Datum.TheVariants.{Absent, Answer, Block, Count, Id, Malformed, Number}
 use Rattle.index_events.specs.declared.event.Datum.TheVariants.{Side}
-use Rattle.index_events.specs.Event.{first}
-use Rattle.index_json.specs.Values.{text_value}
-use Rattle.index_json_laws.specs.EventValues.{block_object, entry_object, range_array, side_object, stat_object}
+use Rattle.index_json.specs.Names.{first}
+use Rattle.index_json.specs.Values.{begin_with, text_value}
+use Rattle.index_json_laws.specs.EventValues.{block_object, entry_object, exclude_object, range_array, side_object}
+use Rattle.index_json_laws.specs.EventValues.{stat_object, stat_or_null}
 use Rattle.index_json_laws.specs.EventValues.{time_object, value_of_datum}
 use Rattle.index_json_laws.specs.Value.{array, digits, items_of, number, spelling}
 use Rattle.index_json_laws.proofs.Pieces.{values_text}
@@ -70,6 +73,16 @@ side_text side = simp (append_assoc, append-nil) refl
 block_text : (o : Offset) → block_value o ≡ spelling (block_object o)
 unfolding block_value written_member escape_byte
 block_text o = simp (append_assoc, append-nil) refl
+
+pub stat_or_null_text : (s : Option Stat) → optional_stat s ≡ spelling (stat_or_null s)
+unfolding optional_stat
+stat_or_null_text None = refl
+stat_or_null_text (Some s) = stat_text s
+
+pub exclude_text : (file : Option OidStat) → exclude_value file ≡ spelling (exclude_object file)
+unfolding exclude_value begin_with escape_byte
+exclude_text None = refl
+exclude_text (Some file) = simp (append_assoc, append-nil, stat_text file.stat) refl
 
 pub datum_text : (d : Datum) → datum_value d ≡ spelling (value_of_datum d)
 datum_text (Number n) = refl

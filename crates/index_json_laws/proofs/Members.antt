@@ -1,7 +1,7 @@
 -- The text of members one after another, and of what stands behind them.
 use Rattle.std.proofs.Common.{◌≡◌, ℕ, true, List, [], ◌++◌, append_assoc, ap, codes, refl, sym, ◌∙◌}
 use Rattle.json.specs.Print.{quoted}
-use Rattle.index_events.specs.Event.{first}
+use Rattle.index_json.specs.Names.{first}
 use Rattle.index_json.specs.Values.{begin_with, text_value}
 use Rattle.index_json_laws.specs.EventValues.{text_name, text_or_digits}
 use Rattle.index_json_laws.specs.Telling.{are_plain}

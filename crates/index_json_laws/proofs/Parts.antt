@@ -2,7 +2,8 @@
 use Rattle.std.proofs.Common.{◌≡◌, ℕ, ◌+◌, Bool, true, List, [], ◌∷◌, ◌++◌, add-one, ap, refl, ◌∙◌, Option, None}
 use Rattle.std.proofs.lemmas.Bool.{eq-eqb}
 use Rattle.std.specs.List.{enumerate_from, flat_map}
-use Rattle.index_events.specs.Event.{Event, element, listed}
+use Rattle.index_events.specs.Event.{Event, listed}
+use Rattle.index_json.specs.Names.{element}
 use Rattle.index_json_laws.specs.Telling.{Behind, in_array, in_object, nothing, place_before, put, tell, told}
 use Rattle.index_json_laws.specs.Value.{Items, Members, Value, item, no_items, no_members, null}
 

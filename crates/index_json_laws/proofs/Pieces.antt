@@ -7,7 +7,7 @@ use Rattle.std.specs.Prelude.{if◌then◌else◌}
 use Rattle.std.specs.Str.{is_utf8}
 use Rattle.json.proofs.Printed.Strings.{escape_byte_plain}
 use Rattle.json.specs.Print.{escape, escape_byte, quoted}
-use Rattle.index_events.specs.Event.{Position, alone, element, first, next}
+use Rattle.index_json.specs.Names.{Position, alone, element, first, next}
 use Rattle.index_json.specs.Values.{begin_of, begin_with, hex_string, json_string, separator, text_value}
 use Rattle.index_json_laws.specs.EventValues.{text_name, text_or_digits}
 use Rattle.index_json_laws.specs.Telling.{are_plain, has_plain_name, is_plain, text_position}

@@ -3,19 +3,23 @@ use Rattle.std.proofs.Common.{◌≡◌, ℕ, zero, suc, Bool, true, false, List
 use Rattle.std.proofs.Common.{arith, codes, refl, subst, sym, ◌∙◌, Option, Some, None, ◌==◌}
 use Rattle.std.proofs.lemmas.Bool.{cond_both, ne_eqb}
 use Rattle.std.specs.Prelude.{if◌then◌else◌}
-use Rattle.index_events.specs.Event.{Event, Position, alone, begin_array, begin_object, datum_field, element, end_array}
-use Rattle.index_events.specs.Event.{end_object, end_text, entry_item, first, heading, hidden_field, line_field, next}
-use Rattle.index_events.specs.Event.{print, ranges_field, stat_field, text_field}
-use Rattle.index_json.specs.EntryValues.{entry_value, stat_value}
-use Rattle.index_json.specs.Json.{datum_value, event_text, range_value}
+use Rattle.index_events.specs.Event.{Event, begin_array, begin_collection, begin_object, datum_field, directory_facts}
+use Rattle.index_events.specs.Event.{end_array, end_object, end_text, entry_item, exclude_file, print, ranges_field}
+use Rattle.index_events.specs.Event.{text_field}
+use Rattle.index_events.specs.declared.event.Datum.TheVariants.{Answer, Id}
+use Rattle.index_untracked.specs.Blocks.{DirectoryValue}
+use Rattle.index_json.specs.Names.{Position, alone, element, first, next, position_of}
+use Rattle.index_json.specs.EntryValues.{entry_value}
+use Rattle.index_json.specs.Json.{datum_value, directory_members, event_text, exclude_value, optional_stat, range_value}
 use Rattle.index_json.specs.Values.{array as written_array, begin_of, begin_with, separator, text_value}
-use Rattle.index_json_laws.specs.EventValues.{entry_object, range_array, stat_object, text_or_digits, value_of_datum}
+use Rattle.index_json_laws.specs.EventValues.{entry_object, exclude_object, range_array, stat_or_null, text_or_digits}
+use Rattle.index_json_laws.specs.EventValues.{value_of_datum}
 use Rattle.index_json_laws.specs.Telling.{Behind, astray, has_plain_name, in_array, in_object, nothing, place_before}
-use Rattle.index_json_laws.specs.Telling.{put, put_array, put_before, put_end, put_object, put_text, tell, text_end}
-use Rattle.index_json_laws.specs.Telling.{text_position, told, value_of, whole, whole_value}
+use Rattle.index_json_laws.specs.Telling.{put, put_array, put_before, put_end, put_facts, put_object, put_text, tell}
+use Rattle.index_json_laws.specs.Telling.{text_end, text_position, told, value_of, whole, whole_value}
 use Rattle.index_json_laws.specs.Value.{Items, Value, array, item, items_of, items_spelling}
 use Rattle.index_json_laws.specs.Value.{members_spelling, no_items, no_members, object, spelling}
-use Rattle.index_json_laws.proofs.Entries.{datum_text, entry_text, ranges_text, stat_text}
+use Rattle.index_json_laws.proofs.Entries.{datum_text, entry_text, exclude_text, ranges_text, stat_or_null_text}
 use Rattle.index_json_laws.proofs.Members.{member_spelled}
 use Rattle.index_json_laws.proofs.Pieces.{between, plain_name, plain_text_position, text_told}
 
@@ -113,27 +117,52 @@ end_spelled b text h = tt
 
 -- ---- events
 
+facts_spelled : (d : DirectoryValue) (b : Behind) (text : List ℕ) → IsText b text
+    → IsText (put_facts d b) (directory_members d ++ text)
+unfolding directory_members
+facts_spelled d b text h =
+    let name = codes "name" in
+    let stat = next (codes "stat") in
+    let exclude = next (codes "exclude_file_oid") in
+    let check = next (codes "check_only") in
+    let id = Id d.exclude in
+    let answer = Answer d.check_only in
+    let b2 = put check (value_of_datum answer) b in
+    let b1 = put exclude (value_of_datum id) b2 in
+    let b0 = put stat (stat_or_null d.stat) b1 in
+    let t2 = (begin_of check ++ datum_value answer) ++ text in
+    let t1 = (begin_of exclude ++ datum_value id) ++ t2 in
+    let t0 = (begin_of stat ++ optional_stat d.stat) ++ t1 in
+    subst (IsText (put_facts d b))
+    (grouped (text_value (first name) d.name) (begin_of stat ++ optional_stat d.stat)
+    (begin_of exclude ++ datum_value id) (begin_of check ++ datum_value answer) text)
+    (text_spelled (first name) d.name b0 t0
+    (put_spelled stat (stat_or_null d.stat) b1 (optional_stat d.stat) t1 (stat_or_null_text d.stat)
+    (put_spelled exclude (value_of_datum id) b2 (datum_value id) t2 (datum_text id)
+    (put_spelled check (value_of_datum answer) b (datum_value answer) text (datum_text answer) h))))
+  where
+    grouped : (a b c d e : List ℕ) → a ++ (b ++ (c ++ (d ++ e))) ≡ (a ++ b ++ c ++ d) ++ e
+    grouped a b c d e = simp append_assoc
+
 event_spelled : (event : Event) (b : Behind) (text : List ℕ) → IsText b text
     → IsText (tell event b) (event_text event ++ text)
 unfolding begin_with
-event_spelled (datum_field indent words position d) b text h =
-    put_spelled position (value_of_datum d) b (datum_value d) text (datum_text d) h
-event_spelled (text_field indent words position bytes) b text h = text_spelled position bytes b text h
-event_spelled (ranges_field indent words position ranges) b text h =
-    put_spelled position (array (items_of range_array ranges)) b (written_array range_value ranges) text
+event_spelled (datum_field at d) b text h =
+    put_spelled (position_of at) (value_of_datum d) b (datum_value d) text (datum_text d) h
+event_spelled (text_field at bytes) b text h = text_spelled (position_of at) bytes b text h
+event_spelled (ranges_field at ranges) b text h =
+    put_spelled (position_of at) (array (items_of range_array ranges)) b (written_array range_value ranges) text
     (ranges_text ranges) h
-event_spelled (stat_field further position s) b text h =
-    put_spelled position (stat_object s) b (stat_value s) text (stat_text s) h
 event_spelled (entry_item place r) b text h =
     put_spelled (element place) (entry_object r) b (entry_value r) text (entry_text r) h
-event_spelled (heading indent words) b text h = h
-event_spelled (line_field indent words d) b text h = h
-event_spelled (hidden_field position d) b text h =
-    put_spelled position (value_of_datum d) b (datum_value d) text (datum_text d) h
-event_spelled (begin_object position) b text h = object_spelled position b text h
-event_spelled end_object b text h = (text, h, refl)
-event_spelled (begin_array position) b text h = array_spelled position b text h
-event_spelled end_array b text h = (text, h, refl)
+event_spelled (exclude_file at file) b text h =
+    put_spelled (position_of at) (exclude_object file) b (exclude_value file) text (exclude_text file) h
+event_spelled (directory_facts d) b text h = facts_spelled d b text h
+event_spelled (begin_object at) b text h = object_spelled (position_of at) b text h
+event_spelled (begin_collection at count) b text h = object_spelled (position_of at) b text h
+event_spelled (end_object at) b text h = (text, h, refl)
+event_spelled (begin_array at count) b text h = array_spelled (position_of at) b text h
+event_spelled (end_array at) b text h = (text, h, refl)
 event_spelled end_text b text h = end_spelled b text h
 
 events_spelled : (events : List Event) → IsText (told events nothing) (print event_text events)

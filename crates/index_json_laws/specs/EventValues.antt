@@ -1,5 +1,5 @@
 -- The values that an event tells by itself (the library's own; the parts of each are those of gitformat-index).
-use Rattle.std.specs.Prelude.{ℕ, List, ◌-◌, ◌++◌, codes, Some, if◌then◌else◌}
+use Rattle.std.specs.Prelude.{ℕ, List, ◌-◌, ◌++◌, codes, Option, Some, None, if◌then◌else◌}
 use Rattle.std.specs.Str.{is_utf8}
 use Rattle.index_events.specs.declared.event.Datum.{Datum}
 use Rattle.index_events.specs.declared.event.Datum.TheVariants.{Answer, Block, Count, Id, Number, Side}
@@ -11,6 +11,7 @@ use Rattle.index_metadata.specs.declared.entry.stat.Time.{Time}
 use Rattle.index_parts.specs.Id.{id_bytes}
 use Rattle.index_small_extensions.specs.declared.index_entry_offset_table.Offset.{Offset}
 use Rattle.index_small_extensions.specs.declared.resolve_undo.Stage.{Stage}
+use Rattle.index_untracked.specs.declared.OidStat.{OidStat}
 use Rattle.index_json_laws.specs.Value.{Members, Value, array, boolean, digits, item, member, no_items, no_members}
 use Rattle.index_json_laws.specs.Value.{null}
 use Rattle.index_json_laws.specs.Value.{number, object, string}
@@ -64,6 +65,17 @@ block_object o =
     object
     (number_member (codes "from_beginning_of_file") o.from_beginning_of_file
     (number_member (codes "num_entries") o.num_entries no_members))
+
+-- a stat, or that there is none
+abbrev pub stat_or_null : Option Stat → Value
+stat_or_null None = null
+stat_or_null (Some s) = stat_object s
+
+-- the stat and the id of a file of exclude patterns, or that there is none
+abbrev pub exclude_object : Option OidStat → Value
+exclude_object None = null
+exclude_object (Some file) =
+    object (member (codes "stat") (stat_object file.stat) (member (codes "id") (digits (id_bytes file.id)) no_members))
 
 -- what a field says
 abbrev pub value_of_datum : Datum → Value

@@ -1,16 +1,19 @@
 -- Which JSON value a list of events tells, whatever is told (the library's own). The events are read from the last to
 -- the first, and each is put before what stands behind it, so that members and items come to stand in their order.
-use Rattle.std.specs.Prelude.{ℕ, suc, zero, ◌==◌, ◌&&◌, Bool, true, false, not, nat_le, List, [], ◌∷◌}
+use Rattle.std.specs.Prelude.{ℕ, suc, zero, ◌==◌, ◌&&◌, Bool, true, false, not, nat_le, List, [], ◌∷◌, codes}
 use Rattle.std.specs.Prelude.{Option, Some, None, unwrap_or, if◌then◌else◌}
 use Rattle.index_events.specs.Document.{document_events}
-use Rattle.index_events.specs.Event.{Event, Position, alone, begin_array, begin_object, datum_field, element, end_array}
-use Rattle.index_events.specs.Event.{end_object, end_text, entry_item, first, heading, hidden_field, line_field, next}
-use Rattle.index_events.specs.Event.{ranges_field, stat_field, text_field}
+use Rattle.index_events.specs.Event.{Event, begin_array, begin_collection, begin_object, datum_field, directory_facts}
+use Rattle.index_events.specs.Event.{end_array, end_object, end_text, entry_item, exclude_file, ranges_field}
+use Rattle.index_events.specs.Event.{text_field}
 use Rattle.index_format.specs.Contents.{Contents}
 use Rattle.index_marks.specs.declared.Marks.{Marks}
 use Rattle.index_parts.specs.declared.hash.ObjectId.{ObjectId}
-use Rattle.index_json_laws.specs.EventValues.{entry_object, range_array, stat_object, text_name, text_or_digits}
-use Rattle.index_json_laws.specs.EventValues.{value_of_datum}
+use Rattle.index_events.specs.declared.event.Datum.TheVariants.{Answer, Id}
+use Rattle.index_json.specs.Names.{Position, alone, element, first, next, position_of}
+use Rattle.index_untracked.specs.Blocks.{DirectoryValue}
+use Rattle.index_json_laws.specs.EventValues.{entry_object, exclude_object, range_array, stat_or_null, text_name}
+use Rattle.index_json_laws.specs.EventValues.{text_or_digits, value_of_datum}
 use Rattle.index_json_laws.specs.Value.{Items, Members, Value, array, item, items_of, member, no_items}
 use Rattle.index_json_laws.specs.Value.{no_members, null, object}
 
@@ -90,20 +93,27 @@ abbrev pub put_end : Behind → Behind
 put_end nothing = text_end
 put_end b = astray
 
+-- the first members of a directory of an untracked cache
+abbrev pub put_facts : DirectoryValue → Behind → Behind
+put_facts d b =
+    put_text (first (codes "name")) d.name
+    (put (next (codes "stat")) (stat_or_null d.stat)
+    (put (next (codes "exclude_file_oid")) (value_of_datum (Id d.exclude))
+    (put (next (codes "check_only")) (value_of_datum (Answer d.check_only)) b)))
+
 -- an event, and what stands behind it
 abbrev pub tell : Event → Behind → Behind
-tell (datum_field indent words position d) b = put position (value_of_datum d) b
-tell (text_field indent words position bytes) b = put_text position bytes b
-tell (ranges_field indent words position ranges) b = put position (array (items_of range_array ranges)) b
-tell (stat_field further position s) b = put position (stat_object s) b
+tell (datum_field at d) b = put (position_of at) (value_of_datum d) b
+tell (text_field at bytes) b = put_text (position_of at) bytes b
+tell (ranges_field at ranges) b = put (position_of at) (array (items_of range_array ranges)) b
 tell (entry_item place r) b = put (element place) (entry_object r) b
-tell (heading indent words) b = b
-tell (line_field indent words d) b = b
-tell (hidden_field position d) b = put position (value_of_datum d) b
-tell (begin_object position) b = put_object position b
-tell end_object b = in_object no_members true b
-tell (begin_array position) b = put_array position b
-tell end_array b = in_array no_items None b
+tell (exclude_file at file) b = put (position_of at) (exclude_object file) b
+tell (directory_facts d) b = put_facts d b
+tell (begin_object at) b = put_object (position_of at) b
+tell (begin_collection at count) b = put_object (position_of at) b
+tell (end_object at) b = in_object no_members true b
+tell (begin_array at count) b = put_array (position_of at) b
+tell (end_array at) b = in_array no_items None b
 tell end_text b = put_end b
 
 -- events, and what stands behind them

@@ -1,25 +1,27 @@
--- The lines of events, and so all that is told of an index file for people (the library's own).
-use Rattle.std.specs.Prelude.{List, ℕ, [], codes, false, true, Option}
+-- The lines of events, and so all that people read of an index file (the library's own).
+use Rattle.std.specs.Prelude.{List, ℕ, [], ◌++◌, Option}
 use Rattle.index_events.specs.Document.{document_events}
-use Rattle.index_events.specs.Event.{Event, datum_field, entry_item, heading, line_field, print, ranges_field}
-use Rattle.index_events.specs.Event.{stat_field, text_field}
+use Rattle.index_events.specs.Event.{Event, begin_array, begin_collection, begin_object, datum_field, directory_facts}
+use Rattle.index_events.specs.Event.{entry_item, exclude_file, print, ranges_field, text_field}
 use Rattle.index_format.specs.Contents.{Contents}
 use Rattle.index_marks.specs.declared.Marks.{Marks}
 use Rattle.index_parts.specs.declared.hash.ObjectId.{ObjectId}
-use Rattle.index_text.specs.Escaped.{escaped}
-use Rattle.index_show.specs.Entries.{entry_lines, stat_lines}
-use Rattle.index_show.specs.Fields.{datum_text, field, heading_line, ranges_line}
+use Rattle.index_show.specs.Entries.{entry_lines}
+use Rattle.index_show.specs.Fields.{datum_text, ranges_line, text_line}
+use Rattle.index_show.specs.Untracked.{directory_lines, exclude_lines}
+use Rattle.index_show.specs.Words.{count_line, depth_line, indent_at, line_at, object_line, line_words}
 
--- the lines of an event; brackets and what programs alone read have none
+-- the lines of an event; ends have none
 abbrev pub line_text : Event → List ℕ
-line_text (datum_field indent words position d) = field indent words (datum_text d)
-line_text (text_field indent words position bytes) = field indent words (escaped bytes)
-line_text (ranges_field indent words position ranges) = ranges_line indent words ranges
-line_text (stat_field true position s) = stat_lines (codes "      ") s
-line_text (stat_field false position s) = stat_lines (codes "    ") s
+line_text (datum_field at d) = line_at at (datum_text d)
+line_text (text_field at bytes) = text_line (indent_at at) (line_words at) bytes ++ depth_line at
+line_text (ranges_field at ranges) = ranges_line (indent_at at) (line_words at) ranges
 line_text (entry_item place r) = entry_lines place r
-line_text (heading indent words) = heading_line indent words
-line_text (line_field indent words d) = field indent words (datum_text d)
+line_text (exclude_file at file) = exclude_lines at file
+line_text (directory_facts d) = directory_lines d
+line_text (begin_object at) = object_line at
+line_text (begin_collection at count) = count_line at count
+line_text (begin_array at count) = count_line at count
 line_text event = []
 
 -- all lines

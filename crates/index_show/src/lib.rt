@@ -6,5 +6,8 @@ mod fields;
 mod prepend;
 mod ranges;
 pub mod show;
+mod structure;
+mod untracked;
+mod words;
 
 pub use show::write_show;

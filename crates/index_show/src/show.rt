@@ -4,13 +4,15 @@ ghost use Rattle.index_state.specs.State.{contents};
 ghost use Rattle.index_text.specs.Blocks.{PutsText};
 ghost use Rattle.index_show.specs.Show.{line_text, show_lines};
 
-use crate::entries::{append_directory_stat, append_entry, append_file_stat};
-use crate::fields::{append_datum, append_heading, append_text};
-use crate::ranges::append_ranges;
+use crate::entries::append_entry;
+use crate::structure::{
+    append_begin, append_count, append_ranges_at, append_text_at, append_value_at,
+};
+use crate::untracked::{append_exclude, append_facts};
 use index_events::document::write_document;
 use index_events::event::Event::{
-    self, BeginArray, BeginObject, Bytes, EndArray, EndObject, EndText, EntryAt, FileStat, Heading,
-    Hidden, Line, Ranges, Value,
+    self, BeginArray, BeginCollection, BeginObject, Bytes, DirectoryFacts, EndArray, EndObject,
+    EndText, EntryAt, ExcludeFile, Ranges, Value,
 };
 use index_events::printer::{Printer, Text};
 use index_marks::Marks;
@@ -31,17 +33,15 @@ impl Printer for Lines {
     fn put(text: &mut Text, event: Event<'_>) -> Appended {
         let lines = &mut text.bytes;
         match event {
-            Value(indent, words, _, datum) => append_datum(lines, indent, words, datum),
-            Bytes(indent, words, _, bytes) => append_text(lines, indent, words, bytes),
-            Ranges(indent, words, _, ranges) => append_ranges(lines, indent, words, ranges),
-            FileStat(true, _, stat) => append_directory_stat(lines, stat),
-            FileStat(false, _, stat) => append_file_stat(lines, stat),
+            Value(at, datum) => append_value_at(lines, at, datum),
+            Bytes(at, bytes) => append_text_at(lines, at, bytes),
+            Ranges(at, ranges) => append_ranges_at(lines, at, ranges),
             EntryAt(place, entry, path) => append_entry(lines, place, entry, path),
-            Heading(indent, words) => append_heading(lines, indent, words),
-            Line(indent, words, datum) => append_datum(lines, indent, words, datum),
-            Hidden(_, _) | BeginObject(_) | EndObject | BeginArray(_) | EndArray | EndText => Ok(
-                (),
-            ),
+            ExcludeFile(at, file) => append_exclude(lines, at, file),
+            DirectoryFacts(directory) => append_facts(lines, directory),
+            BeginObject(at) => append_begin(lines, at),
+            BeginCollection(at, count) | BeginArray(at, count) => append_count(lines, at, count),
+            EndObject(_) | EndArray(_) | EndText => Ok(()),
         }
     }
 }

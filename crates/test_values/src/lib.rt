@@ -20,4 +20,6 @@ mod file;
 #[cfg(test)]
 mod hash;
 #[cfg(test)]
+mod lines;
+#[cfg(test)]
 mod write;

@@ -1,7 +1,9 @@
-use Rattle.std.proofs.Common.{Some, [], ◌∷◌, codes}
+use Rattle.std.proofs.Common.{Some, [], ◌∷◌}
 use Rattle.index_bitmaps.specs.Bitmap.{bitmap}
 use Rattle.index_events.specs.declared.event.Datum.TheVariants.{Absent, Id}
-use Rattle.index_events.specs.Event.{begin_object, datum_field, end_object, first, next}
+use Rattle.index_events.specs.declared.event.Key.TheVariants as keys
+use Rattle.index_events.specs.declared.event.Where.TheVariants.{Member}
+use Rattle.index_events.specs.Event.{begin_object, datum_field, end_object}
 use Rattle.index_events.specs.Bitmaps.{bitmap_events, link_events, pair_events}
 use Rattle.index_events.proofs.Steps.{behind_last, end_all, end_is, then_all, then_one}
 use Rattle.index_events.proofs.bitmaps.append_link.Goals as goal
@@ -12,11 +14,12 @@ returns-in_default-bitmaps g c =
     let spell = g.P.Printer.spell in
     let r = c.put_all-in_default-bitmaps.result in
     let new = c.put_all-in_default-bitmaps.new.self.bytes.items in
+    let at = Member keys.Link 0 5 in
     rw (c.in-Some.is, c.in_default-bitmaps.is) (then_all spell r new
-    (begin_object (next (codes "link")) ∷ datum_field [] (codes "link") (first (codes "shared_index_checksum"))
+    (begin_object at ∷ datum_field (Member keys.SharedIndexChecksum 1 0)
     (Id (Some c.in-Some.link.now.shared_index_checksum)) ∷ [])
     c.in_ok-put_all.ensures
-    (end_all spell r new _ (datum_field (codes "  ") (codes "bitmaps") (next (codes "bitmaps")) Absent ∷ end_object ∷ [])
+    (end_all spell r new _ (datum_field (Member keys.Bitmaps 1 1) Absent ∷ end_object at ∷ [])
     c.put_all-in_default-bitmaps.ensures)).is
 
 pub returns : goal.returns
@@ -25,15 +28,17 @@ returns g c =
     let spell = g.P.Printer.spell in
     let r = c.put_all-2.result in
     let new = c.put_all-2.new.self.bytes.items in
-    let deleted = bitmap_events (codes "deleted") (first (codes "delete")) (bitmap c.in-Some-bitmaps.pair.delete) in
-    let replaced = bitmap_events (codes "replaced") (next (codes "replace")) (bitmap c.in-Some-bitmaps.pair.replace) in
+    let at = Member keys.Link 0 5 in
+    let bitmaps = Member keys.Bitmaps 1 1 in
+    let deleted = bitmap_events (Member keys.Delete 2 0) 3 (bitmap c.in-Some-bitmaps.pair.delete) in
+    let replaced = bitmap_events (Member keys.Replace 2 1) 3 (bitmap c.in-Some-bitmaps.pair.replace) in
     rw (c.in-Some.is, c.in-Some-bitmaps.is) (then_all spell r new
-    (begin_object (next (codes "link")) ∷ datum_field [] (codes "link") (first (codes "shared_index_checksum"))
+    (begin_object at ∷ datum_field (Member keys.SharedIndexChecksum 1 0)
     (Id (Some c.in-Some.link.now.shared_index_checksum)) ∷ [])
     c.in_ok-put_all.ensures
     (then_one spell r new c.in_ok-put.ensures
     (end_is spell r new
     (then_all spell r new deleted c.in_ok-append_bitmap.ensures
     (then_all spell r new replaced c.in_ok-append_bitmap-2.ensures
-    (end_all spell r new _ (end_object ∷ end_object ∷ []) c.put_all-2.ensures)))
-    (behind_last deleted replaced (end_object ∷ []) (end_object ∷ []))))).is
+    (end_all spell r new _ (end_object bitmaps ∷ end_object at ∷ []) c.put_all-2.ensures)))
+    (behind_last deleted replaced (end_object bitmaps ∷ []) (end_object at ∷ []))))).is

@@ -15,8 +15,8 @@ returns g c =
     let spell = g.P.Printer.spell in
     let r = c.put-2.result in
     let new = c.put-2.new.text.bytes.items in
-    rw c.in-Some.is (then_all spell r new (take 3 (monitor_events (Some (monitor_of c.in-Some.monitor.now))))
+    rw c.in-Some.is (then_all spell r new (take 2 (monitor_events (Some (monitor_of c.in-Some.monitor.now))))
     (rw (c.event_of_token.ensures, c.token.ensures) at c.in_ok-put_all.ensures)
-    (then_all spell r new (drop 3 (take 9 (monitor_events (Some (monitor_of c.in-Some.monitor.now)))))
+    (then_all spell r new (drop 2 (take 7 (monitor_events (Some (monitor_of c.in-Some.monitor.now)))))
     (rw c.entry_dirty.ensures at c.in_ok-append_bitmap.ensures)
     (end_one spell r new _ _ c.put-2.ensures))).is

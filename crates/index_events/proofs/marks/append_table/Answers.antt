@@ -1,8 +1,7 @@
-use Rattle.std.proofs.Common.{[], ◌∷◌, arith, codes, length, sym, ◌∙◌}
+use Rattle.std.proofs.Common.{arith, sym, ◌∙◌}
 use Rattle.index_small_extensions.specs.declared.index_entry_offset_table.Offset.{Offset}
 use Rattle.index_text.proofs.Placed.{placed_more}
-use Rattle.index_events.specs.declared.event.Datum.TheVariants.{Number}
-use Rattle.index_events.specs.Event.{begin_array, line_field, listed, next}
+use Rattle.index_events.specs.Event.{listed}
 use Rattle.index_events.specs.Marks.{block_events, blocks_events, table_events}
 use Rattle.index_events.proofs.Listed.{self_listed, shown}
 use Rattle.index_events.proofs.Steps.{end_one, one_told, then_all, then_one}
@@ -28,24 +27,22 @@ returns-in_default g c =
 
 pub loop-place-preserved : goal.loop-place-preserved
 loop-place-preserved g c = placed_more (shown g.P.Printer.spell block_events (λ (o : Offset). o))
-    c.deref-block-items.result.now c.loop-place.place _ c.put_all.new.self.bytes.items c.loop-place.text.bytes.items
+    c.deref-block-items.result.now c.loop-place.place _ c.put-2.new.text.bytes.items c.loop-place.text.bytes.items
     c.put-in-loop-place.new.text.bytes.items (omega (arith, c.loop-place-test.true)) c.loop-place.invariant
-    (one_told g.P.Printer.spell _ _ c.in_ok-put-2.ensures)
+    (one_told g.P.Printer.spell _ _ c.in_ok-put-3.ensures)
 
 pub returns : goal.returns
 unfolding table_events blocks_events
 returns g c =
     let spell = g.P.Printer.spell in
-    let r = c.put-2.result in
-    let new = c.put-2.new.text.bytes.items in
-    let mid = c.put_all.new.self.bytes.items in
+    let r = c.put-3.result in
+    let new = c.put-3.new.text.bytes.items in
+    let mid = c.put-2.new.text.bytes.items in
     let blocks = c.deref-block-items.result.now in
     rw (c.if-not-had.false, c.in-Some.is, sym c.deref-block-items.ensures.value)
     (then_one spell r new (rw c.if-not-had.false at c.in_ok-put.ensures)
-    (then_all spell r new (line_field [] (codes "offset table") (Number (length blocks))
-    ∷ begin_array (next (codes "offset_table")) ∷ [])
-    (rw (c.len.ensures ∙ sym c.deref-block-items.ensures.len) at c.in_ok-put_all.ensures)
+    (then_one spell r new (rw (c.len.ensures ∙ sym c.deref-block-items.ensures.len) at c.in_ok-put-2.ensures)
     (then_all spell r new (listed block_events blocks)
     (self_listed spell block_events mid c.loop-place.text.bytes.items blocks c.loop-place.place
     (omega (arith, c.loop-place-test.false)) c.loop-place.invariant)
-    (end_one spell r new _ _ c.put-2.ensures)))).is
+    (end_one spell r new _ _ c.put-3.ensures)))).is

@@ -1,15 +1,14 @@
 use Rattle.std.proofs.Common.{◌++◌, Ok, take}
 use Rattle.index_cached_tree.specs.declared.Tree.{Tree}
 use Rattle.index_text.specs.Blocks.{PutsBlocks}
-use Rattle.index_events.specs.Event.{position_of, print}
-use Rattle.index_events.specs.Trees.{below, tree_opened}
+use Rattle.index_events.specs.Event.{print}
+use Rattle.index_events.specs.Trees.{tree_opened}
 use Rattle.index_events.proofs.Listed.{all_shown}
 use Rattle.index_events.proofs.TreeEvents.{placed_tree}
 use Rattle.index_events.proofs.trees.+write_directory.Given as goal
 
--- what is known of the directory was told, and the directories in it before this one
+-- the directory was told up to those in it, and of these all before this one
 abbrev pub invariant-loop-place : goal.invariant-loop-place
 invariant-loop-place g l = PutsBlocks {T = Unit {0}} g.W.Out l.fn.out l.out (Ok tt) l.text.bytes.items
-    ((l.fn.text.bytes.items
-    ++ print g.P.Printer.spell (tree_opened (position_of l.fn.member) l.fn.depth l.fn.tree))
-    ++ all_shown g.P.Printer.spell (placed_tree (below l.fn.depth)) (λ (t : Tree). t) (take l.place l.child-items))
+    ((l.fn.text.bytes.items ++ print g.P.Printer.spell (tree_opened l.fn.at l.fn.depth l.fn.tree))
+    ++ all_shown g.P.Printer.spell (placed_tree l.fn.depth) (λ (t : Tree). t) (take l.place l.child-items))

@@ -1,11 +1,12 @@
-use Rattle.std.proofs.Common.{◌≡◌, ℕ, None, [], ◌∷◌, List, ◌++◌, ◌∙◌, ap, arith, codes, length, map, sym}
+use Rattle.std.proofs.Common.{◌≡◌, ℕ, None, [], ◌∷◌, List, ◌++◌, ◌∙◌, ap, arith, length, map, sym}
 use Rattle.std.proofs.lemmas.List.{length-map}
 use Rattle.std.proofs.lemmas.Result.{err_from_is_err_and}
 use Rattle.index_small_extensions.specs.ResolveUndo.{path_stages}
 use Rattle.index_small_extensions.specs.declared.resolve_undo.ResolvePath.{ResolvePath}
 use Rattle.index_text.proofs.Written.{placed_out}
-use Rattle.index_events.specs.declared.event.Datum.TheVariants.{Number}
-use Rattle.index_events.specs.Event.{Event, begin_array, end_array, line_field, next, print}
+use Rattle.index_events.specs.declared.event.Key.TheVariants as keys
+use Rattle.index_events.specs.declared.event.Where.TheVariants.{Member}
+use Rattle.index_events.specs.Event.{Event, begin_array, end_array, print}
 use Rattle.index_events.specs.Undo.{path_events, undo_events}
 use Rattle.index_events.proofs.Chain.{done_as, first_sent}
 use Rattle.index_events.proofs.Listed.{shown}
@@ -13,14 +14,18 @@ use Rattle.index_events.proofs.Loops.{ends_sent, ends_unheld, item_broken, item_
 use Rattle.index_events.proofs.Steps.{one_told}
 use Rattle.index_events.proofs.undo.write_undo.Goals as goal
 
--- the first events
+-- the first event
 abbrev begin : ℕ → List Event
-begin n = line_field [] (codes "resolve undo") (Number n) ∷ begin_array (next (codes "resolve_undo")) ∷ []
+begin n = begin_array (Member keys.ResolveUndo 0 6) n ∷ []
 
--- the same, with how many paths there are
-counted : (spell : Event → List ℕ) (old : List ℕ) {new : List ℕ} {m n : ℕ} → new ≡ old ++ print spell (begin m)
-    → m ≡ n → new ≡ old ++ print spell (begin n)
-counted spell old e is = e ∙ ap (λ k. old ++ print spell (begin k)) is
+-- the last one
+abbrev ends : List Event
+ends = end_array (Member keys.ResolveUndo 0 6) ∷ []
+
+-- the first one, with how many paths there are
+counted : (spell : Event → List ℕ) (old : List ℕ) {new : List ℕ} {m n : ℕ}
+    → new ≡ old ++ spell (begin_array (Member keys.ResolveUndo 0 6) m) → m ≡ n → new ≡ old ++ print spell (begin n)
+counted spell old e is = one_told spell old _ e ∙ ap (λ k. old ++ print spell (begin k)) is
 
 pub returns-in_default : goal.returns-in_default
 returns-in_default g c =
@@ -30,7 +35,7 @@ returns-in_default g c =
 
 pub loop-place-preserved : goal.loop-place-preserved
 loop-place-preserved g c =
-    placed_out (shown g.P.Printer.spell path_events path_stages) c.put_all.new.self.bytes.items
+    placed_out (shown g.P.Printer.spell path_events path_stages) c.put-2.new.text.bytes.items
     c.deref-path-items.result.now c.loop-place.place c.path-item.result (omega (arith, c.loop-place-test.true))
     c.loop-place.invariant
     (c.in_ok-append_path.ensures ∙ ap (λ (x : ResolvePath). c.loop-place.text.bytes.items
@@ -44,9 +49,9 @@ returns-in_err-append_path g c =
     let p = err_from_is_err_and c.from_residual-in_err-append_path.result
     c.from_residual-in_err-append_path.ensures.1 in
     rw c.in-Some.is (item_unheld g.W.Out c.args.out.now spell path_events path_stages c.args.text.now.bytes.items
-    c.put_all.new.self.bytes.items
-    (begin (length paths)) (end_array ∷ []) c.deref-path-items.result.now paths
-    (counted spell c.args.text.now.bytes.items c.in_ok-put_all.ensures
+    c.put-2.new.text.bytes.items
+    (begin (length paths)) ends c.deref-path-items.result.now paths
+    (counted spell c.args.text.now.bytes.items c.in_ok-put-2.ensures
     (c.len.ensures ∙ sym c.deref-path-items.ensures.len
     ∙ sym (length-map c.deref-path-items.result.now path_stages)
     ∙ ap (λ ps. length (map path_stages ps)) c.deref-path-items.ensures.value))
@@ -59,9 +64,9 @@ returns-in_err-put_block g c =
     let p = err_from_is_err_and c.from_residual-in_err-put_block.result
     c.from_residual-in_err-put_block.ensures.1 in
     rw c.in-Some.is (item_broken g.W.Out c.args.out.now spell path_events path_stages c.args.text.now.bytes.items
-    c.put_all.new.self.bytes.items
-    (begin (length paths)) (end_array ∷ []) c.deref-path-items.result.now paths
-    (counted spell c.args.text.now.bytes.items c.in_ok-put_all.ensures
+    c.put-2.new.text.bytes.items
+    (begin (length paths)) ends c.deref-path-items.result.now paths
+    (counted spell c.args.text.now.bytes.items c.in_ok-put-2.ensures
     (c.len.ensures ∙ sym c.deref-path-items.ensures.len
     ∙ sym (length-map c.deref-path-items.result.now path_stages)
     ∙ ap (λ ps. length (map path_stages ps)) c.deref-path-items.ensures.value))
@@ -71,15 +76,15 @@ returns-in_err-put_block g c =
     ++ print spell (path_events c.loop-place.place (path_stages x))) c.path-item.is)
     c.in_err-put_block.ensures.err c.in_err-put_block.ensures.has_failed c.in_err-put_block.ensures.loan)
 
-pub returns-in_err-put-2 : goal.returns-in_err-put-2
-returns-in_err-put-2 g c =
+pub returns-in_err-put-3 : goal.returns-in_err-put-3
+returns-in_err-put-3 g c =
     let spell = g.P.Printer.spell in
     let paths = map path_stages c.in-Some.paths.now.items in
-    let p = err_from_is_err_and c.from_residual-in_err-put-2.result c.from_residual-in_err-put-2.ensures.1 in
+    let p = err_from_is_err_and c.from_residual-in_err-put-3.result c.from_residual-in_err-put-3.ensures.1 in
     rw c.in-Some.is (ends_unheld g.W.Out c.args.out.now spell path_events path_stages c.args.text.now.bytes.items
-    c.put_all.new.self.bytes.items
-    (begin (length paths)) (end_array ∷ []) c.deref-path-items.result.now paths
-    (counted spell c.args.text.now.bytes.items c.in_ok-put_all.ensures
+    c.put-2.new.text.bytes.items
+    (begin (length paths)) ends c.deref-path-items.result.now paths
+    (counted spell c.args.text.now.bytes.items c.in_ok-put-2.ensures
     (c.len.ensures ∙ sym c.deref-path-items.ensures.len
     ∙ sym (length-map c.deref-path-items.result.now path_stages)
     ∙ ap (λ ps. length (map path_stages ps)) c.deref-path-items.ensures.value))
@@ -91,11 +96,11 @@ returns g c =
     let spell = g.P.Printer.spell in
     let paths = map path_stages c.in-Some.paths.now.items in
     rw c.in-Some.is (ends_sent g.W.Out c.args.out.now spell path_events path_stages c.args.text.now.bytes.items
-    c.put_all.new.self.bytes.items
-    (begin (length paths)) (end_array ∷ []) c.deref-path-items.result.now paths
-    (counted spell c.args.text.now.bytes.items c.in_ok-put_all.ensures
+    c.put-2.new.text.bytes.items
+    (begin (length paths)) ends c.deref-path-items.result.now paths
+    (counted spell c.args.text.now.bytes.items c.in_ok-put-2.ensures
     (c.len.ensures ∙ sym c.deref-path-items.ensures.len
     ∙ sym (length-map c.deref-path-items.result.now path_stages)
     ∙ ap (λ ps. length (map path_stages ps)) c.deref-path-items.ensures.value))
     (ap (map path_stages) c.deref-path-items.ensures.value) c.loop-place.place
-    (omega (arith, c.loop-place-test.false)) c.loop-place.invariant (one_told spell _ _ c.in_ok-put-2.ensures))
+    (omega (arith, c.loop-place-test.false)) c.loop-place.invariant (one_told spell _ _ c.in_ok-put-3.ensures))

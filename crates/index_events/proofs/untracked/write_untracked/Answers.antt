@@ -1,11 +1,11 @@
-use Rattle.std.proofs.Common.{None, [], ◌∷◌, ◌++◌, ◌∙◌, ap, arith}
+use Rattle.std.proofs.Common.{None, ◌++◌, ◌∙◌, ap, arith}
 use Rattle.std.proofs.lemmas.Result.{err_from_is_err_and}
 use Rattle.index_text.proofs.Written.{placed_out}
 use Rattle.index_untracked.specs.Blocks.{directory_value}
 use Rattle.index_untracked.specs.Untracked.{cache_of}
 use Rattle.index_untracked.specs.declared.Directory.{Directory}
-use Rattle.index_events.specs.Event.{end_array, end_object, print}
-use Rattle.index_events.specs.Untracked.{cache_begin, cached_events, untracked_events}
+use Rattle.index_events.specs.Event.{print}
+use Rattle.index_events.specs.Untracked.{cache_begin, cache_end, cached_events, untracked_events}
 use Rattle.index_events.proofs.Chain.{done_as, first_sent}
 use Rattle.index_events.proofs.Listed.{shown}
 use Rattle.index_events.proofs.Loops.{ends_sent, ends_unheld, item_broken, item_unheld}
@@ -33,7 +33,7 @@ returns-in_err-append_directory g c =
     let p = err_from_is_err_and c.from_residual-in_err-append_directory.result
     c.from_residual-in_err-append_directory.ensures.1 in
     rw c.in-Some.is (item_unheld g.W.Out c.args.out.now g.P.Printer.spell cached_events directory_value
-    c.args.text.now.bytes.items c.append_begin.new.text.bytes.items (cache_begin v) (end_array ∷ end_object ∷ [])
+    c.args.text.now.bytes.items c.append_begin.new.text.bytes.items (cache_begin v) cache_end
     c.directories-directory-items.result.now v.directories c.in_ok-append_begin.ensures
     c.directories-directory-items.ensures _ c.loop-place.place p.1 p.2 c.loop-place.invariant)
 
@@ -43,7 +43,7 @@ returns-in_err-put_block g c =
     let p = err_from_is_err_and c.from_residual-in_err-put_block.result
     c.from_residual-in_err-put_block.ensures.1 in
     rw c.in-Some.is (item_broken g.W.Out c.args.out.now g.P.Printer.spell cached_events directory_value
-    c.args.text.now.bytes.items c.append_begin.new.text.bytes.items (cache_begin v) (end_array ∷ end_object ∷ [])
+    c.args.text.now.bytes.items c.append_begin.new.text.bytes.items (cache_begin v) cache_end
     c.directories-directory-items.result.now v.directories c.in_ok-append_begin.ensures
     c.directories-directory-items.ensures _ c.loop-place.place c.directory-item.result p.1
     (omega (arith, c.loop-place-test.true)) c.loop-place.invariant
@@ -56,7 +56,7 @@ returns-in_err-put_all g c =
     let v = cache_of c.in-Some.cache.now in
     let p = err_from_is_err_and c.from_residual-in_err-put_all.result c.from_residual-in_err-put_all.ensures.1 in
     rw c.in-Some.is (ends_unheld g.W.Out c.args.out.now g.P.Printer.spell cached_events directory_value
-    c.args.text.now.bytes.items c.append_begin.new.text.bytes.items (cache_begin v) (end_array ∷ end_object ∷ [])
+    c.args.text.now.bytes.items c.append_begin.new.text.bytes.items (cache_begin v) cache_end
     c.directories-directory-items.result.now v.directories c.in_ok-append_begin.ensures
     c.directories-directory-items.ensures _ c.loop-place.place p.1 p.2 (omega (arith, c.loop-place-test.false))
     c.loop-place.invariant)
@@ -65,7 +65,7 @@ pub returns : goal.returns
 returns g c =
     let v = cache_of c.in-Some.cache.now in
     rw c.in-Some.is (ends_sent g.W.Out c.args.out.now g.P.Printer.spell cached_events directory_value
-    c.args.text.now.bytes.items c.append_begin.new.text.bytes.items (cache_begin v) (end_array ∷ end_object ∷ [])
+    c.args.text.now.bytes.items c.append_begin.new.text.bytes.items (cache_begin v) cache_end
     c.directories-directory-items.result.now v.directories c.in_ok-append_begin.ensures
     c.directories-directory-items.ensures c.loop-place.place (omega (arith, c.loop-place-test.false))
     c.loop-place.invariant c.in_ok-put_all.ensures)

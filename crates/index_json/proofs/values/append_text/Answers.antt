@@ -1,6 +1,6 @@
 use Rattle.std.proofs.Common.{ℕ, List, ◌++◌, ◌∙◌, ap, codes}
 use Rattle.std.proofs.lemmas.Result.{on_ok_weaker}
-use Rattle.index_events.specs.Event.{position_of}
+use Rattle.index_json.specs.Names.{as_position}
 use Rattle.index_text.proofs.Appended.{two_more}
 use Rattle.index_json.specs.Values.{begin_of, begin_with, hex_string, json_string}
 use Rattle.index_json.proofs.Strings.{bytes_are, text_is}
@@ -9,7 +9,7 @@ use Rattle.index_json.proofs.values.append_text.Goals as goal
 pub returns-in_ok-append_begin-in-Ok : goal.returns-in_ok-append_begin-in-Ok
 returns-in_ok-append_begin-in-Ok c =
     let old = c.args.text.now.items in
-    let position = position_of c.args.member in
+    let position = as_position c.args.position in
     on_ok_weaker c.append_string.result
     (λ h. two_more old c.append_begin.new.text.items c.append_string.new.text.items (begin_of position)
     (json_string c.in-Ok.value.now) c.in_ok-append_begin-in-Ok.ensures h ∙ ap (λ (l : List ℕ). old ++ l)
@@ -19,7 +19,7 @@ returns-in_ok-append_begin-in-Ok c =
 pub returns-in_ok-append_begin-in-Err : goal.returns-in_ok-append_begin-in-Err
 returns-in_ok-append_begin-in-Err c =
     let old = c.args.text.now.items in
-    let position = position_of c.args.member in
+    let position = as_position c.args.position in
     on_ok_weaker c.append_bytes.result
     (λ h. two_more old c.append_begin-in-Err.new.text.items c.append_bytes.new.text.items
     (begin_with position (codes "_bytes\":")) (hex_string c.args.bytes.now) c.in_ok-append_begin-in-Err.ensures h
