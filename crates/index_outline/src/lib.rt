@@ -63,14 +63,13 @@ pub fn outline_behind_header(
         rest: passed.rest,
     };
     let (parts, checksum) = read_ending(alloc, no_entries, read_as)?;
+    let mut extensions = parts.extensions;
+    extensions.is_sparse |= passed.sparse;
     Ok(Outline {
         object_hash: parts.object_hash,
         timestamp: parts.timestamp,
         version: parts.version,
-        extensions: Outcome {
-            is_sparse: parts.extensions.is_sparse || passed.sparse,
-            ..parts.extensions
-        },
+        extensions,
         extensions_fit: parts.extensions_fit,
         count,
         path_bytes,
