@@ -91,7 +91,7 @@ module _ (kind : Kind) (time : FileTime) (options : Options) (version : Version)
 
 -- ---- the value without its records
 
-abbrev without_records : Contents → Contents
+abbrev pub without_records : Contents → Contents
 without_records v = record v { records = [] }
 
 -- without its records, and with the mark of a sparse index if it had that or this says so

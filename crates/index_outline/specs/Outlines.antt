@@ -1,5 +1,5 @@
 -- What an outline has of an index whose entries it counts and doesn't keep (the library's own).
-use Rattle.std.specs.Prelude.{◌≡◌, ℕ, List, length, None, Ok}
+use Rattle.std.specs.Prelude.{◌≡◌, ◌||◌, ℕ, Bool, List, length, None, Ok}
 use Rattle.index_entries.specs.Entries.{AreEntries}
 use Rattle.index_entries.specs.Record.{Record}
 use Rattle.index_format.specs.Answer.{Answer}
@@ -7,6 +7,7 @@ use Rattle.index_format.specs.Contents.{Contents, ExtensionIdsAreOf}
 use Rattle.index_format.specs.DecodeErrors.{SaysFault}
 use Rattle.index_format.specs.Outcome.{outcome_of}
 use Rattle.index_format.specs.declared.error.Error.{Error}
+use Rattle.index_format.specs.declared.extension.Outcome.{Outcome}
 use Rattle.index_parts.specs.declared.hash.Kind.{Kind}
 use Rattle.index_reading.specs.ReadParts.{IsAnswerBehind}
 use Rattle.index_reading.specs.declared.decode.ReadAs.{ReadAs}
@@ -38,6 +39,10 @@ abbrev pub OutlineIdsAreOf : Kind → Outline → Type 0
 OutlineIdsAreOf kind o = ExtensionIdsAreOf kind (outcome_of o.extensions)
 
 -- ---- what each step of it answers
+
+-- marked as those of a sparse index if they were before, or this says so
+abbrev pub marked : Outcome → Bool → Outcome
+marked o sparse = record o { is_sparse = o.is_sparse || sparse }
 
 -- the error says a fault that is such an answer
 abbrev pub IsFaultBy : (Answer → Type 0) → Error → Type 0

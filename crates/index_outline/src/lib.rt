@@ -1,8 +1,8 @@
 //! An index in the bytes of its file of which no entry is kept: they are only counted.
 #![tactic(auto)]
 
-ghost use Rattle.std.specs.Prelude.{IfErr, IfOk};
-ghost use Rattle.index_outline.specs.Outlines.{IsFaultBy, IsOutlineBehind, OutlineIdsAreOf};
+ghost use Rattle.std.specs.Prelude.{◌≡◌, IfErr, IfOk};
+ghost use Rattle.index_outline.specs.Outlines.{IsFaultBy, IsOutlineBehind, OutlineIdsAreOf, marked};
 ghost use Rattle.index_reading.specs.ReadParts.{IsAnswerBehind};
 
 use index_entries::Version;
@@ -39,6 +39,14 @@ pub struct Outline<'a> {
     pub checksum: Option<ObjectId>,
 }
 
+/// Returns the extensions, marked as those of a sparse index if this says so.
+fn marked(mut extensions: Outcome, sparse: bool) -> Outcome
+    ensures { result ≡ marked extensions sparse }
+{
+    extensions.is_sparse |= sparse;
+    extensions
+}
+
 /// The outline of so many entries at the front of the bytes, and of the end after them.
 pub fn outline_behind_header(
     alloc: Global,
@@ -63,13 +71,11 @@ pub fn outline_behind_header(
         rest: passed.rest,
     };
     let (parts, checksum) = read_ending(alloc, no_entries, read_as)?;
-    let mut extensions = parts.extensions;
-    extensions.is_sparse |= passed.sparse;
     Ok(Outline {
         object_hash: parts.object_hash,
         timestamp: parts.timestamp,
         version: parts.version,
-        extensions,
+        extensions: marked(parts.extensions, passed.sparse),
         extensions_fit: parts.extensions_fit,
         count,
         path_bytes,

@@ -1,16 +1,17 @@
 use Rattle.std.proofs.Common.{◌≡◌, ◌∙◌, Bool, [], ap, refl, sym}
-use Rattle.std.specs.Prelude.{◌||◌}
 use Rattle.std.proofs.lemmas.Result.{err_from_is_err_and}
 use Rattle.index_entries.specs.Held.{Held}
 use Rattle.index_entries.specs.Record.{has_directory}
 use Rattle.index_format.specs.Answer.{IsBehindHeader, IsEnding, has, lacks}
 use Rattle.index_format.specs.Contents.{parts_contents}
+use Rattle.index_format.specs.Outcome.{outcome_of}
+use Rattle.index_format.specs.declared.extension.Outcome.{Outcome}
 use Rattle.index_format.proofs.Answers.{body_late}
 use Rattle.index_window.specs.Passed.{paths_len}
 use Rattle.index_outline.specs.declared.Outline.{Outline}
 use Rattle.index_outline.specs.Outlines.{outlined_value}
 use Rattle.index_outline.proofs.OutlineFaults.{says_weaker}
-use Rattle.index_outline.proofs.Outlines.{ending_fault, fits_is, marked_value, outline_from}
+use Rattle.index_outline.proofs.Outlines.{ending_fault, fits_is, marked_value, outline_from, without_records}
 use Rattle.index_outline.proofs.outline_behind_header.Goals as goal
 
 pub returns-in-Err-clause-fault : goal.returns-in-Err-clause-fault
@@ -42,7 +43,7 @@ returns-clause-outlined c =
       object_hash = parts.object_hash;
       timestamp = parts.timestamp;
       version = parts.version;
-      extensions = record parts.extensions { is_sparse = parts.extensions.is_sparse || c.in-Ok.passed.sparse };
+      extensions = c.marked.result;
       extensions_fit = parts.extensions_fit;
       count = c.args.count;
       path_bytes = c.in-Some.path_bytes;
@@ -50,7 +51,9 @@ returns-clause-outlined c =
       checksum = c.in_ok-parts.checksum;
     } in
     let bare : outlined_value o [] ≡ marked_value (has_directory passed.0) (parts_contents parts) =
-    ap (λ (b : Bool). marked_value b (parts_contents parts)) passed.4 in
+    ap (λ (e : Outcome). record (without_records (parts_contents parts)) { extensions = outcome_of e })
+    c.marked.ensures
+    ∙ ap (λ (b : Bool). marked_value b (parts_contents parts)) passed.4 in
     outline_from r.object_hash r.timestamp r.options r.version passed.0 c.in-Ok.passed.rest.now (parts_contents parts) o
     passed.1 passed.2 (fits_is (paths_len passed.0) c.in-Some.path_bytes (sym passed.3 ∙ c.in-Some.is)) bare
     (rw none at c.in_ok-parts.ensures.ending)
