@@ -1,5 +1,5 @@
 -- From what is said of one file to what is said of an index and the shared one.
-use Rattle.std.proofs.Common.{◌≡◌, ℕ, Bool, true, List, Option, Some, None, inl, inr, refl, subst}
+use Rattle.std.proofs.Common.{◌≡◌, ℕ, Bool, true, List, Option, Some, None, inl, inr, refl, subst, sym}
 use Rattle.std.specs.Prelude.{Result, Ok, Err, IfErr, IfOk, IfSome}
 use Rattle.std.specs.declared.io.Error.{Error as IoError}
 use Rattle.index_parts.specs.declared.hash.Kind.{Kind}
@@ -21,7 +21,7 @@ use Rattle.index_state.specs.State.{contents}
 use Rattle.gix_index.specs.declared.file.File.{File}
 use Rattle.gix_index.specs.File.{state_of, checksum_of}
 use Rattle.gix_index.specs.Checked.{IsFileAnswer, SaysFile}
-use Rattle.index_file_faults.specs.ReadErrors.{link_error_of}
+use Rattle.index_file_faults.specs.ReadErrors.{IsOfCall, link_error_of}
 use Rattle.gix_index.specs.Disk.{Disk, MayHave, known_of, shared_path}
 use Rattle.gix_index.specs.FileFaults.{IsOfFile, SaysOfBoth, SaysOfFile, SaysOfFiles}
 use Rattle.gix_index.specs.Linked.{IsOnDisk, IsReadAlone, IsReadAs, IsSplit, expecting, own, joined}
@@ -56,6 +56,17 @@ fault_of_opened k None e there (inl (inr h)) = own_fault_at k None e there (inr 
 fault_of_opened k (Some file) e there (inl h) = own_fault_at k (Some file) e there h
 fault_of_opened k None e there (inr h) = absurd h.1
 fault_of_opened k (Some file) e there (inr h) = absurd h.1
+
+-- The error of a call that failed for a file says so of that file: whatever the file is read for, and whatever is known
+-- of it, if this fault may come of it.
+pub call_says : (path : List ℕ) (error : IoError) (e : Error) → IsOfCall path error e → (works : Bool) (known : Known)
+    → (works ≡ true → IsFaultOf known error) → (skip : Bool) (kind : Kind) (time : FileTime) (options : Options)
+    → SaysOfFile path works known skip kind time options e
+call_says path error (errors.Io fault) h works known is skip kind time options =
+    (h.0, h.1.0, λ w. subst (IsFaultOf known) (sym h.1.1) (is w))
+call_says path error (errors.Decode e) h works known is skip kind time options = absurd h
+call_says path error (errors.LinkExtension e) h works known is skip kind time options = absurd h
+call_says path error errors.Memory h works known is skip kind time options = tt
 
 -- bytes that are those of an open file, where they are known
 pub held_by : (stored : Option Stored) (bytes : List ℕ) → IfSome stored (λ whole. bytes ≡ whole.bytes)

@@ -1,4 +1,3 @@
-mod Behind
 pub mod Checks
 mod FileFaults
 pub mod Files

@@ -93,7 +93,7 @@ pub use Rattle.index_format.specs.Storable
 pub use Rattle.index_format.specs.Stored
 pub use Rattle.index_format.specs.Writing
 pub use Rattle.index_file_faults.specs.WriteFaults
-pub use Rattle.index_window.specs.Behind
+pub use Rattle.index_reading.specs.Behind
 pub use Rattle.index_window.specs.Intact
 pub use Rattle.index_state.specs.Dissolve
 pub use Rattle.index_state.specs.Edits

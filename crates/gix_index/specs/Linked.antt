@@ -11,7 +11,7 @@ use Rattle.index_split.specs.Link.{LinkValue}
 use Rattle.index_state.specs.Dissolve.{IsDissolved}
 use Rattle.index_format.specs.Contents.{Contents}
 use Rattle.index_state.specs.State.{contents}
-use Rattle.index_window.specs.Behind.{FollowEntries}
+use Rattle.index_reading.specs.Behind.{FollowEntries}
 use Rattle.index_folder.specs.World.{Known, MayBe}
 use Rattle.gix_index.specs.Checked.{IsFileAnswer}
 use Rattle.gix_index.specs.Disk.{Disk, MayHave}

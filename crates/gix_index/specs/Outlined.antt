@@ -5,7 +5,7 @@ use Rattle.index_metadata.specs.declared.entry.stat.FileTime.{FileTime}
 use Rattle.index_format.specs.Contents.{Contents}
 use Rattle.index_format.specs.Storable.{IsStorable}
 use Rattle.index_format.specs.declared.decode.Options.{Options}
-pub use Rattle.index_outline.specs.Outlines.{Outlines}
+pub use Rattle.index_outline.specs.Outlines.{Outlines, outlined_value}
 pub use Rattle.index_outline.specs.declared.Outline
 pub use Rattle.index_window.specs.Passed
 use Rattle.gix_index.specs.Checked.{IsFileAnswer}

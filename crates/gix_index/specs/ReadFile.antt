@@ -2,21 +2,19 @@
 use Rattle.std.specs.Prelude.{◌≡◌, ◌⊎◌, ℕ, Bool, true, false, List, Option, Ok, Result, IfErr, IfOk, IsTrue}
 use Rattle.std.specs.Path.{path_buf_bytes, path_bytes}
 use Rattle.std.specs.Global.{Global}
-use Rattle.std.specs.declared.io.Error.{Error as IoError}
 use Rattle.std.specs.declared.path.Path.{Path}
 use Rattle.std.specs.declared.path.buf.PathBuf.{PathBuf}
 use Rattle.index_parts.specs.declared.hash.Kind.{Kind}
 use Rattle.index_parts.specs.declared.hash.ObjectId.{ObjectId}
 use Rattle.index_metadata.specs.declared.entry.stat.FileTime.{FileTime}
 use Rattle.index_folder.specs.Locks.{target_of}
-use Rattle.index_folder.specs.World.{IsFaultOf, Known, MayBeMissing, World}
+use Rattle.index_folder.specs.World.{Known, MayBeMissing, World}
 use Rattle.index_folder.specs.declared.lock.Place.{Place}
 use Rattle.index_format.specs.Answer.{Answer}
-use Rattle.index_format.specs.Contents.{Contents}
 use Rattle.index_format.specs.declared.decode.Options.{Options}
 use Rattle.index_state.specs.State.{contents}
 use Rattle.index_state.specs.declared.State.{State}
-use Rattle.index_window.specs.Behind.{FollowEntries}
+use Rattle.index_reading.specs.Behind.{FollowEntries}
 use Rattle.index_window.specs.declared.ReadOptions.{ReadOptions}
 use Rattle.gix_index.specs.Checked.{IsFileAnswer}
 use Rattle.gix_index.specs.Disk.{Disk, IsTimeFor, MayHave, disk_at, disk_beside, shared_path}
@@ -32,39 +30,30 @@ use Rattle.index_file_faults.specs.declared.init.Error.{Error}
 abbrev pub IsAnswerBy : ReadOptions → List ℕ → Answer → Type 0
 IsAnswerBy r bytes a = IsFileAnswer r.skip_hash r.object_hash r.timestamp r.options bytes a
 
--- some bytes are read as the file
-abbrev pub IsReadOf : ReadOptions → File → Type 0
-IsReadOf r f = (bytes : List ℕ) × IsAnswerBy r bytes (Ok (contents (state_of f), checksum_of f))
+-- these bytes are read as the file
+abbrev pub IsReadFrom : ReadOptions → List ℕ → File → Type 0
+IsReadFrom r bytes f = IsAnswerBy r bytes (Ok (contents (state_of f), checksum_of f))
 
--- those bytes are
+-- some bytes are
+abbrev pub IsReadOf : ReadOptions → File → Type 0
+IsReadOf r f = (bytes : List ℕ) × IsReadFrom r bytes f
+
+-- the bytes of the file of which this is known are
 abbrev pub IsFileRead : Known → ReadOptions → File → Type 0
 IsFileRead own r f = IsReadAs own r.skip_hash r.object_hash r.timestamp r.options (contents (state_of f)) (checksum_of f)
 
--- these bytes are read so by themselves, and those behind their entries are told, where they are kept
+-- these bytes are read so by themselves, with the bytes after their entries, if these are kept
 pub record IsReadKeeping (keeps : Bool) (r : ReadOptions) (bytes : List ℕ) (u : Unfollowed) : Type 0 where
-  pub read : IsAnswerBy r bytes (Ok (contents (state_of u.index), checksum_of u.index))
+  pub read : IsReadFrom r bytes u.index
   pub ending : keeps ≡ true → FollowEntries r.object_hash bytes u.ending.items
 
 -- the file's bytes are
 abbrev pub IsFileReadKeeping : Bool → ReadOptions → Known → Unfollowed → Type 0
 IsFileReadKeeping keeps r known u = (bytes : List ℕ) × MayHave known bytes × IsReadKeeping keeps r bytes u
 
--- the bytes are no index
-abbrev pub IsNoIndex : Kind → List ℕ → Type 0
-IsNoIndex kind bytes =
-    (skip : Bool) (time : FileTime) (options : Options) (value : Contents) (checksum : Option ObjectId)
-    → IsFileAnswer skip kind time options bytes (Ok (value, checksum)) → ⊥
-
 -- what an error says of a file of which this is known
 abbrev pub SaysOfFileBy : List ℕ → Bool → Known → ReadOptions → Error → Type 0
 SaysOfFileBy path works known r e = SaysOfFile path works known r.skip_hash r.object_hash r.timestamp r.options e
-
--- whatever it is read for, and whatever is known of it but that this fault of the disk may come of it
-abbrev pub SaysOfAny : List ℕ → IoError → Error → Type 0
-SaysOfAny path error e =
-    (works : Bool) (known : Known) → (works ≡ true → IsFaultOf known error)
-    → (skip : Bool) (kind : Kind) (time : FileTime) (options : Options)
-    → SaysOfFile path works known skip kind time options e
 
 -- whatever else is known of it but that it may have these bytes
 abbrev pub SaysOfHolder : List ℕ → List ℕ → ReadOptions → Error → Type 0

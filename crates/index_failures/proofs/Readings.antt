@@ -1,10 +1,13 @@
 -- What was read at the begin of 1970, with the default options.
-use Rattle.std.proofs.Common.{◌≡◌, ℕ, List, subst, Bool, false, Option, None, refl}
+use Rattle.std.proofs.Common.{◌≡◌, ℕ, List, subst, Bool, true, false, Option, None, refl, sym, ◌∙◌}
+use Rattle.std.specs.Borrow.{Bor}
+use Rattle.std.specs.declared.io.Error.{Error as IoError}
 use Rattle.gix_index.specs.Contents.{Contents}
 use Rattle.gix_index.specs.DecodeOptions.{Options}
 use Rattle.gix_index.specs.Disk.{disk_at}
-use Rattle.gix_index.specs.Disk.World.{World}
+use Rattle.gix_index.specs.Disk.World.{IsFaultOf, World}
 use Rattle.gix_index.specs.FileFaults.{SaysOfFiles}
+use Rattle.gix_index.specs.FileFaults.ReadErrors.{IsOfCall}
 use Rattle.gix_index.specs.FileFaults.ReadError.{Error as ReadFault}
 use Rattle.gix_index.specs.FileFaults.ReadError.TheVariants as reads
 use Rattle.gix_index.specs.FileTime.{FileTime}
@@ -12,7 +15,8 @@ use Rattle.gix_index.specs.Kind.{Kind}
 use Rattle.gix_index.specs.Linked.{IsOnDisk, IsOnDiskSince}
 use Rattle.gix_index.specs.ObjectId.{ObjectId}
 use Rattle.index_failures.specs.Options.{unlimited_options, IsBeginOf1970}
-use Rattle.index_failures.specs.Reading.{IsInFile, IsInFileSince, SaysOfIndex}
+use Rattle.index_failures.specs.Reading.{FailsReading, IsInFile, IsInFileSince, SaysOfBytes, SaysOfIndex, failure_of}
+use Rattle.index_failures.specs.declared.failure.Failure.{Failure}
 
 pub in_file : (world : World) (at path : List ℕ) (kind : Kind) (time : FileTime) (options : Options) (v : Contents) (checksum : Option ObjectId)
     → IsBeginOf1970 time → at ≡ path → options ≡ unlimited_options
@@ -44,6 +48,25 @@ says_so works world at path kind time options e same is h = by e
     by (reads.Decode e) h = (time, h)
     by (reads.LinkExtension e) h = (time, h)
     by reads.Memory h = tt
+
+-- the error of a call that failed for the file at a path says so of its bytes, if the fault may come of what is there
+pub call_says : (works : Bool) (world : World) (at path : List ℕ) (error : IoError) (e : ReadFault)
+    → IsOfCall at error e → at ≡ path → (works ≡ true → IsFaultOf (world at) error) → SaysOfBytes works world path e
+call_says works world at path error (reads.Io fault) h same is = (
+  h.0,
+  h.1.0 ∙ same,
+  λ w. subst (λ (p : List ℕ). IsFaultOf (world p) fault.error) same
+      (subst (IsFaultOf (world at)) (sym h.1.1) (is w)),
+)
+call_says works world at path error (reads.Decode e) h same is = absurd h
+call_says works world at path error (reads.LinkExtension e) h same is = absurd h
+call_says works world at path error reads.Memory h same is = tt
+
+-- a failure of reading that is a lack of memory
+pub lacks_memory : (Says : ReadFault → Type 0) (path : Bor (List ℕ)) (failure : Failure)
+    → failure ≡ failure_of path reads.Memory → Says reads.Memory → FailsReading Says path.now failure
+lacks_memory Says path failure is says =
+    record { file = path; names = refl; fault = reads.Memory; is = is; says = says }
 
 pub options_are : (options : Options) → options.thread_limit ≡ None
     → options.min_extension_block_in_bytes_for_threading ≡ 0 → options.expected_checksum ≡ None

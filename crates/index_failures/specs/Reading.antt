@@ -1,10 +1,9 @@
 -- What the program reads in a file, and how that fails (the program's own).
-use Rattle.std.specs.Prelude.{◌≡◌, ℕ, Bool, true, false, List, Option, Err}
+use Rattle.std.specs.Prelude.{◌≡◌, ℕ, Bool, false, List, Option, Err}
 use Rattle.std.specs.Borrow.{Bor}
-use Rattle.std.specs.declared.io.Error.{Error as IoError}
 use Rattle.gix_index.specs.DecodeError.TheVariants as decoding
 use Rattle.gix_index.specs.Disk.{Disk, MayHave, disk_at}
-use Rattle.gix_index.specs.Disk.World.{IsFaultOf, World}
+use Rattle.gix_index.specs.Disk.World.{World}
 use Rattle.gix_index.specs.FileFaults.{IsOfFile, SaysOfFiles}
 use Rattle.gix_index.specs.FileFaults.ReadError.{Error as ReadFault}
 use Rattle.gix_index.specs.FileFaults.ReadError.TheVariants as reads
@@ -51,11 +50,6 @@ SaysOfHeaded works world kind path (reads.Decode (decoding.Header e)) =
     (bytes : List ℕ) × MayHave (world path) bytes × (header_of kind bytes ≡ Err (header_fault e))
 SaysOfHeaded works world kind path reads.Memory = Unit {0}
 SaysOfHeaded works world kind path e = ⊥
-
--- whatever is known there, if this fault of the disk may come of it
-abbrev pub SaysOfAnyBytes : List ℕ → IoError → ReadFault → Type 0
-SaysOfAnyBytes path error e =
-    (works : Bool) (world : World) → (works ≡ true → IsFaultOf (world path) error) → SaysOfBytes works world path e
 
 -- as which failure a fault of reading a file comes: one of the disk names its file
 abbrev pub failure_of : Bor (List ℕ) → ReadFault → Failure

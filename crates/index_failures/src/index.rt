@@ -1,22 +1,20 @@
 //! The index in a file that a command's words name.
 
-ghost use Rattle.std.specs.Prelude.{◌≡◌};
+ghost use Rattle.std.specs.Prelude.{◌≡◌, IfErr, IfOk};
 ghost use Rattle.std.specs.Path.{path_buf_bytes};
 ghost use Rattle.gix_index.specs.FileFaults.ReadError.TheVariants.{Memory};
 ghost use Rattle.index_failures.specs.Calls.{CountsPath, CountsFileAt, OpensIndex, ReadsBytes, ReadsHeaded, ReadsIndex};
 ghost use Rattle.index_failures.specs.Calls.{ReadsWholeAt};
-ghost use Rattle.index_failures.specs.Reading.{SaysOfAnyBytes, failure_of};
+ghost use Rattle.index_failures.specs.Reading.{failure_of};
 
 use crate::failure::Failure;
 use gix_index::entry::FileTime;
-use gix_index::file::PathError;
 use gix_index::file::folder::{Folder, Source};
 use gix_index::hash::Kind;
 use gix_index::{File, decode, file};
 use index_window::disk::{CountedFile, WholeFile, bytes_of, counted_of};
 use std::alloc::Global;
 use std::io;
-use std::io::ErrorKind;
 use std::path::{Path, PathBuf};
 
 /// Why there is no index to be had of a file.
@@ -37,14 +35,15 @@ pub fn out_of_memory(path: &str) -> Failure<'_>
     Failure::Index { path, fault }
 }
 
-/// Why the bytes of the file at a path can't be had, by what opening or reading it answered.
-fn fault_of(path: PathBuf, error: io::Error) -> file::init::Error
-    ensures { SaysOfAnyBytes (path_buf_bytes path) error result }
+/// Returns a path of a command's words as a path of a file. An error is a lack of memory.
+pub fn path_at(alloc: Global, path: &str) -> Result<PathBuf, Failure<'_>>
+    ensures path { IfOk result (λ file. path_buf_bytes file ≡ path.now) }
+    ensures memory { IfErr result (λ failure. failure ≡ failure_of path.entry Memory) }
 {
-    if error.kind() == ErrorKind::OutOfMemory {
-        return file::init::Error::Memory;
+    match PathBuf::from_str(alloc, path) {
+        Ok(file) => Ok(file),
+        Err(_) => Err(out_of_memory(path)),
     }
-    file::init::Error::Io(PathError { path, error })
 }
 
 /// All bytes of the file at a path, and when it was changed last. [`Failure::Read`] names the file that can't be opened
@@ -56,12 +55,10 @@ pub fn bytes_at<'a, D: Folder>(
 ) -> Result<(Vec<u8>, FileTime), Failure<'a>>
     ensures { ReadsBytes D.Folder folder.now path.now result }
 {
-    let Ok(file) = PathBuf::from_str(alloc, path) else {
-        return Err(out_of_memory(path));
-    };
+    let file = path_at(alloc, path)?;
     match file::bytes_at(folder, alloc, file.as_path()) {
         Ok(read) => Ok(read),
-        Err(error) => Err(failure_of(path, fault_of(file, error))),
+        Err(error) => Err(failure_of(path, file::init::Error::of(file, error))),
     }
 }
 
@@ -91,15 +88,13 @@ pub fn headed_bytes_at<'a, D: Folder>(
 ) -> Result<(Vec<u8>, FileTime), Failure<'a>>
     ensures { ReadsHeaded D.Folder folder.now kind path.now result }
 {
-    let Ok(file) = PathBuf::from_str(alloc, path) else {
-        return Err(out_of_memory(path));
-    };
+    let file = path_at(alloc, path)?;
     match whole_at(folder, alloc, kind, file.as_path()) {
         Ok((read, time)) => match read {
             WholeFile::Held(bytes, _) => Ok((bytes, time)),
             WholeFile::Refused(e) => Err(failure_of(path, file::init::Error::Decode(e))),
         },
-        Err(fault) => Err(failure_of(path, fault_of(file, fault))),
+        Err(fault) => Err(failure_of(path, file::init::Error::of(file, fault))),
     }
 }
 
@@ -127,12 +122,10 @@ pub fn counted_at<'a, D: Folder>(
 ) -> Result<CountedFile, Failure<'a>>
     ensures { CountsFileAt D.Folder folder.now kind path.now result }
 {
-    let Ok(file) = PathBuf::from_str(alloc, path) else {
-        return Err(out_of_memory(path));
-    };
+    let file = path_at(alloc, path)?;
     match count_at(folder, alloc, kind, file.as_path()) {
         Ok(counted) => Ok(counted),
-        Err(why) => Err(failure_of(path, fault_of(file, why))),
+        Err(why) => Err(failure_of(path, file::init::Error::of(file, why))),
     }
 }
 
@@ -148,9 +141,7 @@ pub fn index_at<'a, D: Folder>(
 ) -> Result<File, Failure<'a>>
     ensures { ReadsIndex D.Folder folder.now kind path.now result }
 {
-    let Ok(file) = PathBuf::from_str(alloc, path) else {
-        return Err(out_of_memory(path));
-    };
+    let file = path_at(alloc, path)?;
     let time = FileTime::EPOCH;
     let options = decode::Options::default();
     match File::at_in(folder, alloc, file, kind, false, time, options) {
@@ -168,9 +159,7 @@ pub fn opened_at<'a, D: Folder>(
 ) -> Result<File, Failure<'a>>
     ensures { OpensIndex D.Folder folder.now kind path.now result }
 {
-    let Ok(file) = PathBuf::from_str(alloc, path) else {
-        return Err(out_of_memory(path));
-    };
+    let file = path_at(alloc, path)?;
     match File::open(folder, alloc, file, kind, false, decode::Options::default()) {
         Ok(index) => Ok(index),
         Err(fault) => Err(failure_of(path, fault)),

@@ -1,4 +1,10 @@
--- As which error of reading a file a fault of its bytes, or of a link, is told (the library's own).
+-- As which error of reading a file a fault of its bytes, of a link, or of a call is reported (the library's own).
+use Rattle.std.specs.Prelude.{◌≡◌, ℕ, List}
+use Rattle.std.specs.IoError.{error_kind}
+use Rattle.std.specs.Path.{path_buf_bytes}
+use Rattle.std.specs.declared.io.Error.{Error as IoError}
+use Rattle.std.specs.declared.io.ErrorKind.TheVariants.{OutOfMemory}
+use Rattle.index_folder.specs.Locks.{IsOfDisk}
 use Rattle.index_format.specs.declared.error.Error.{Error as Decoding}
 use Rattle.index_format.specs.declared.error.Error.TheVariants as decoding
 use Rattle.index_split.specs.declared.link.decode.Error.{Error as LinkError}
@@ -15,3 +21,11 @@ error_of e = errors.Decode e
 abbrev pub link_error_of : LinkError → Error
 link_error_of links.Memory = errors.Memory
 link_error_of e = errors.LinkExtension e
+
+-- the error of a call that failed for the file at a path: a lack of memory has a variant of its own
+abbrev pub IsOfCall : List ℕ → IoError → Error → Type 0
+IsOfCall path error (errors.Io fault) =
+    IsOfDisk fault × (path_buf_bytes fault.path ≡ path) × (fault.error ≡ error)
+IsOfCall path error (errors.Decode e) = ⊥
+IsOfCall path error (errors.LinkExtension e) = ⊥
+IsOfCall path error errors.Memory = error_kind error ≡ OutOfMemory

@@ -1,13 +1,16 @@
 //! Why there is no index in a file.
 
+ghost use Rattle.std.specs.Path.{path_buf_bytes};
 ghost use Rattle.std.specs.Prelude.{◌≡◌};
-ghost use Rattle.index_file_faults.specs.ReadErrors.{error_of, link_error_of};
+ghost use Rattle.index_file_faults.specs.ReadErrors.{IsOfCall, error_of, link_error_of};
 ghost use Rattle.index_file_faults.specs.declared.init.Error.TheVariants.{Memory};
 
 use index_folder::fault::PathError;
 use index_format::decode;
 use index_split::link;
 use std::alloc::AllocError;
+use std::io;
+use std::path::PathBuf;
 use thiserror::Error;
 
 /// Why there is no index in a file, or none could be made of it.
@@ -56,5 +59,17 @@ impl From<AllocError> for Error {
 
     fn from(_e: AllocError) -> Error {
         Error::Memory
+    }
+}
+
+impl Error {
+    /// Returns the error of a call of the system that failed for the file at a path.
+    pub fn of(path: PathBuf, error: io::Error) -> Error
+        ensures { IsOfCall (path_buf_bytes path) error result }
+    {
+        match PathError::of(path, error) {
+            Some(fault) => Error::Io(fault),
+            None => Error::Memory,
+        }
     }
 }

@@ -9,7 +9,6 @@ use index_folder::fault::PathError;
 use index_format::write::Error as PutError;
 use std::alloc::AllocError;
 use std::io;
-use std::io::ErrorKind;
 use std::path::PathBuf;
 use thiserror::Error;
 
@@ -62,10 +61,9 @@ pub enum Step {
 pub fn fault_of(step: Step, path: PathBuf, error: io::Error) -> Error
     ensures { SaysOfStep step (path_buf_bytes path) error result }
 {
-    if error.kind() == ErrorKind::OutOfMemory {
+    let Some(fault) = PathError::of(path, error) else {
         return Error::Memory;
-    }
-    let fault = PathError { path, error };
+    };
     match step {
         Step::Lock => Error::AcquireLock(fault),
         Step::Put => Error::Io(fault),

@@ -1,6 +1,12 @@
 //! What went wrong with a file.
 
+ghost use Rattle.std.specs.IoError.{error_kind};
+ghost use Rattle.std.specs.Prelude.{◌≡◌, IfNone, IfSome};
+ghost use Rattle.std.specs.declared.io.ErrorKind.TheVariants.{OutOfMemory};
+ghost use Rattle.index_folder.specs.Locks.{IsOfDisk};
+
 use std::fmt::Write as _;
+use std::io::ErrorKind;
 use std::path::PathBuf;
 use std::{fmt, io};
 
@@ -28,6 +34,21 @@ pub struct PathError {
     pub path: PathBuf,
     /// What went wrong.
     pub error: io::Error,
+}
+
+impl PathError {
+    /// Returns the fault of a call of the system that failed for a file; None if the call lacked memory.
+    pub fn of(path: PathBuf, error: io::Error) -> Option<PathError>
+        ensures path { IfSome result (λ fault. fault.path ≡ path) }
+        ensures error { IfSome result (λ fault. fault.error ≡ error) }
+        ensures disk { IfSome result (λ fault. IsOfDisk fault) }
+        ensures memory { IfNone result (error_kind error ≡ OutOfMemory) }
+    {
+        if error.kind() == ErrorKind::OutOfMemory {
+            return None;
+        }
+        Some(PathError { path, error })
+    }
 }
 
 impl fmt::Display for PathError {

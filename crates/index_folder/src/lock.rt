@@ -51,10 +51,10 @@ impl Error {
     pub(crate) fn of(path: PathBuf, error: io::Error) -> Error
         ensures fault { SaysOfFault (path_buf_bytes path) error result }
     {
-        if error.kind() == ErrorKind::OutOfMemory {
-            return Error::Memory;
+        match PathError::of(path, error) {
+            Some(fault) => Error::Io(fault),
+            None => Error::Memory,
         }
-        Error::Io(PathError { path, error })
     }
 }
 

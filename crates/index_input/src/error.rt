@@ -6,7 +6,6 @@ ghost use Rattle.std.specs.Path.{path_buf_bytes};
 use gix_index::file::{OneLine, PathError};
 use std::alloc::{AllocError, Global};
 use std::fmt::Write as _;
-use std::io::ErrorKind;
 use std::path::PathBuf;
 use std::{fmt, io};
 use thiserror::Error;
@@ -66,14 +65,14 @@ impl From<AllocError> for Error {
 impl Error {
     ghost use Rattle.index_input.specs.Faults.{IsOfFault};
 
-    /// What it says that a call of the system failed for a file.
-    pub(crate) fn of(path: PathBuf, error: io::Error) -> Error
+    /// Returns the error of a call of the system that failed for the file at a path.
+    pub fn of(path: PathBuf, error: io::Error) -> Error
         ensures { IsOfFault (path_buf_bytes path) error result }
     {
-        if error.kind() == ErrorKind::OutOfMemory {
-            return Error::Memory;
+        match PathError::of(path, error) {
+            Some(fault) => Error::Io(fault),
+            None => Error::Memory,
         }
-        Error::Io(PathError { path, error })
     }
 }
 

@@ -18,9 +18,7 @@ use Rattle.index_format.specs.Contents.{Contents}
 use Rattle.index_format.specs.Outcome.{Outcome}
 use Rattle.index_format.specs.Storable.{IsStorable}
 use Rattle.index_format.proofs.ReadValues.{answer_read, same_value}
-use Rattle.index_state.specs.Edits.{with_records}
-use Rattle.index_state.specs.State.{contents}
-use Rattle.index_outline.specs.Outlines.{Outlines}
+use Rattle.index_outline.specs.Outlines.{Outlines, outlined_value}
 use Rattle.index_window.specs.Passed.{in_64_bits, paths_len}
 use Rattle.index_outline.specs.declared.Outline.{Outline}
 
@@ -93,9 +91,13 @@ module _ (kind : Kind) (time : FileTime) (options : Options) (version : Version)
 
 -- ---- the value without its records
 
--- with the mark of a sparse index where it had that or this says so
+abbrev pub without_records : Contents → Contents
+without_records v = record v { records = [] }
+
+-- without its records, and with the mark of a sparse index if it had that or this says so
 abbrev pub marked_value : Bool → Contents → Contents
-marked_value sparse v = record v { extensions = record v.extensions { sparse = v.extensions.sparse || sparse } }
+marked_value sparse v =
+    record v { records = []; extensions = record v.extensions { sparse = v.extensions.sparse || sparse } }
 
 or_none : (a b : Bool) → ((a || false) || b) ≡ (a || b)
 or_none true b = refl
@@ -103,7 +105,7 @@ or_none false b = refl
 
 bare_value : (kind : Kind) (time : FileTime) (version : Version) (rs : List Record) (o : Outcome)
     → marked_value (has_directory rs) (value_of kind time version [] o)
-    ≡ with_records (value_of kind time version rs o) []
+    ≡ without_records (value_of kind time version rs o)
 bare_value kind time version rs o =
     let with_mark : Bool → Contents = λ b. record {
       kind = kind;
@@ -118,7 +120,8 @@ bare_value kind time version rs o =
 -- what an outline says of a value that was read so
 pub outline_from : (kind : Kind) (time : FileTime) (options : Options) (version : Version) (rs : List Record)
     (rest : List ℕ) (v : Contents) (o : Outline) → AreEntries version kind None o.entries.now rs rest
-    → length rs ≡ o.count → o.path_bytes ≡ paths_len rs → contents o.bare ≡ marked_value (has_directory rs) v
+    → length rs ≡ o.count → o.path_bytes ≡ paths_len rs
+    → outlined_value o [] ≡ marked_value (has_directory rs) v
     → IsEnding kind time options version [] rest (Ok (v, o.checksum))
     → (w : Contents) × Outlines w o
     × IsBehindHeader kind time options version o.count o.entries.now (Ok (w, o.checksum))
@@ -126,7 +129,8 @@ outline_from kind time options version rs rest v o entries count path_bytes bare
     let read = ending_value kind time options version rs rest v o.checksum ending in (
       value_of kind time version rs read.outcome,
       record {
-        bare = bare ∙ ap (marked_value (has_directory rs)) read.is ∙ bare_value kind time version rs read.outcome;
+        value = ap (λ (w : Contents). record w { records = rs }) (sym (bare
+            ∙ ap (marked_value (has_directory rs)) read.is ∙ bare_value kind time version rs read.outcome));
         count = sym count;
         path_bytes = path_bytes;
         after = rest;

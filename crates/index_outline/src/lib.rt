@@ -4,22 +4,31 @@
 ghost use Rattle.std.specs.Prelude.{◌≡◌, IfErr, IfOk};
 ghost use Rattle.index_outline.specs.Outlines.{IsFaultBy, IsOutlineBehind, OutlineIdsAreOf, marked};
 ghost use Rattle.index_reading.specs.ReadParts.{IsAnswerBehind};
-ghost use Rattle.index_state.specs.State.{PathsInStorage};
 
+use index_entries::Version;
 use index_entries::list::EntryList;
 use index_entry_reading::entries::Read;
-use index_format::{Parts, decode};
-use index_parts::hash::ObjectId;
+use index_format::decode;
+use index_format::extension::Outcome;
+use index_metadata::entry::FileTime;
+use index_parts::hash::{Kind, ObjectId};
 use index_reading::decode::{ReadAs, read_ending};
-use index_state::State;
 use index_window::passed::pass_entries;
 use std::alloc::Global;
 
 /// An index of which no entry is kept.
 #[derive(Drop)]
 pub struct Outline<'a> {
-    /// The index but for its entries: it has none.
-    pub bare: State,
+    /// The hash of the index's ids.
+    pub object_hash: Kind,
+    /// When the file was last written, as the caller says.
+    pub timestamp: FileTime,
+    /// The version of the file.
+    pub version: Version,
+    /// What the extensions say.
+    pub extensions: Outcome,
+    /// Whether they speak of these entries, and not of those of a shared index too.
+    pub extensions_fit: bool,
     /// How many entries there are.
     pub count: u32,
     /// How many bytes their paths have together.
@@ -30,15 +39,15 @@ pub struct Outline<'a> {
     pub checksum: Option<ObjectId>,
 }
 
-/// The parts, marked as those of a sparse index where this says so.
-fn marked(mut parts: Parts, sparse: bool) -> Parts
-    ensures { result ≡ marked parts sparse }
+/// Returns the extensions, marked as those of a sparse index if this says so.
+fn marked(mut extensions: Outcome, sparse: bool) -> Outcome
+    ensures { result ≡ marked extensions sparse }
 {
-    parts.extensions.is_sparse |= sparse;
-    parts
+    extensions.is_sparse |= sparse;
+    extensions
 }
 
-/// The outline of so many entries at the front of the bytes, and of the end behind them.
+/// The outline of so many entries at the front of the bytes, and of the end after them.
 pub fn outline_behind_header(
     alloc: Global,
     read_as: ReadAs,
@@ -47,7 +56,6 @@ pub fn outline_behind_header(
 ) -> Result<Outline<'_>, decode::Error>
     ensures outlined { IfOk result (IsOutlineBehind read_as count bytes.now) }
     ensures fault { IfErr result (IsFaultBy (IsAnswerBehind read_as count bytes.now)) }
-    ensures placed { IfOk result (λ o. PathsInStorage o.bare) }
     ensures extension_ids { IfOk result (OutlineIdsAreOf read_as.object_hash) }
 {
     let passed = match pass_entries(read_as.version, read_as.object_hash, count, bytes) {
@@ -64,7 +72,11 @@ pub fn outline_behind_header(
     };
     let (parts, checksum) = read_ending(alloc, no_entries, read_as)?;
     Ok(Outline {
-        bare: State::from(marked(parts, passed.sparse)),
+        object_hash: parts.object_hash,
+        timestamp: parts.timestamp,
+        version: parts.version,
+        extensions: marked(parts.extensions, passed.sparse),
+        extensions_fit: parts.extensions_fit,
         count,
         path_bytes,
         entries: bytes,

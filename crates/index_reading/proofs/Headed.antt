@@ -1,22 +1,28 @@
 -- Behind a header that stands, with a count that can be and is within the limit, the answer is what follows.
-use Rattle.std.proofs.Common.{◌≡◌, ℕ, Bool, false, ltb, List, length, drop, Option, Result, Ok, Err, refl, subst}
+use Rattle.std.proofs.Common.{◌≡◌, ◌∙◌, ℕ, Bool, false, ltb, List, length, drop, Option, Result, Ok, Err, refl, subst}
+use Rattle.std.proofs.Common.{sym}
 use Rattle.std.specs.Prelude.{◌↔◌, IfErr, IfOk, MatchBool, MatchResult}
 use Rattle.index_parts.specs.declared.hash.Kind.{Kind}
-use Rattle.index_parts.specs.declared.hash.ObjectId.{ObjectId}
 use Rattle.index_metadata.specs.declared.entry.stat.FileTime.{FileTime}
 use Rattle.index_extensions.specs.EndMarker.{IsMarker}
 use Rattle.index_entries.specs.declared.Version.{Version}
 use Rattle.index_entries.specs.Header.{HeaderFault, count_of, header_of}
 use Rattle.index_entries.specs.Limits.{is_too_large, most_entries}
-use Rattle.index_format.specs.declared.Parts.{Parts}
 use Rattle.index_format.specs.declared.decode.Options.{Options}
 use Rattle.index_format.specs.declared.error.Error.{Error}
-use Rattle.index_format.specs.Answer.{Answer, IsAnswer, IsBehindHeader, IsCounted}
+use Rattle.index_entries.specs.Record.{AreBytes}
+use Rattle.index_format.specs.Answer.{Answer, Fault, IsAnswer, IsBehindHeader, IsCounted}
 use Rattle.index_format.specs.Contents.{parts_contents}
-use Rattle.index_format.specs.DecodeErrors.{Says, SaysFault}
+use Rattle.index_format.specs.DecodeErrors.{IsEarly, SaysFault}
+use Rattle.index_format.specs.Storable.{IsStorable}
 use Rattle.index_format.proofs.Answers.{body_late, one_marker, says_weaker}
+use Rattle.index_format.proofs.ReadValues.{says_storable}
+use Rattle.index_reading.specs.Behind.{FollowEntries}
 use Rattle.index_reading.specs.Head.{IsDeclared, LooksAt}
+use Rattle.index_reading.specs.ReadParts.{FollowCounted, SaysRead}
 use Rattle.index_reading.specs.declared.decode.Declared.{Declared}
+use Rattle.index_reading.specs.declared.decode.ReadAs.{ReadAs}
+use Rattle.index_reading.specs.declared.decode.ReadIndex.{ReadIndex}
 
 counted_both : (t u : Bool) (X Y B : Type 0) → t ≡ false → u ≡ false → B ↔ MatchBool t X (MatchBool u Y B)
 counted_both t u X Y B n m = rw (n, m) (λ b. b, λ b. b)
@@ -49,15 +55,41 @@ module _ (kind : Kind) (time : FileTime) (options : Options) (bytes : List ℕ) 
       (IsBehindHeader kind time options version (count_of bytes) (drop 12 bytes) a)
       (λ v. (o : Option ℕ) × IsMarker kind bytes o × IsCounted o kind time options bytes a v) _ head (marked_is a)
 
+read_weaker : (r : Result ReadIndex Error) (P Q : Answer → Type 0) → ((a : Answer) → P a → Q a)
+    → ((f : Fault) → IsEarly f → Q (Err f) → ⊥) → SaysRead r P → SaysRead r Q
+read_weaker (Ok read) P Q to never h = to _ h
+read_weaker (Err e) P Q to never h = says_weaker (Err e) P Q to never h
+
 -- what a result says of what follows, it says of the answer to all bytes
 pub says_answer : (kind : Kind) (time : FileTime) (options : Options) (version : Version) (count : ℕ)
-    (rest bytes : List ℕ) (r : Result (Parts × Option ObjectId) Error)
+    (rest bytes : List ℕ) (r : Result ReadIndex Error)
     → ((a : Answer) → IsBehindHeader kind time options version count rest a ↔ IsAnswer kind time options bytes a)
-    → Says parts_contents r (IsBehindHeader kind time options version count rest)
-    → Says parts_contents r (IsAnswer kind time options bytes)
+    → SaysRead r (IsBehindHeader kind time options version count rest)
+    → SaysRead r (IsAnswer kind time options bytes)
 says_answer kind time options version count rest bytes r same =
-    says_weaker r (IsBehindHeader kind time options version count rest) (IsAnswer kind time options bytes)
+    read_weaker r (IsBehindHeader kind time options version count rest) (IsAnswer kind time options bytes)
     (λ a. (same a).0) (λ f early q. body_late kind time options version count rest f early ((same (Err f)).1 q))
+
+-- what was read of bytes can be written
+pub read_storable : (kind : Kind) (time : FileTime) (options : Options) (bytes : List ℕ) (r : Result ReadIndex Error)
+    → AreBytes bytes → SaysRead r (IsAnswer kind time options bytes)
+    → IfOk r (λ read. IsStorable (parts_contents read.parts))
+read_storable kind time options bytes (Ok read) small h =
+    says_storable kind time options bytes (Ok (read.parts, read.checksum)) small h
+read_storable kind time options bytes (Err e) small h =
+    says_storable kind time options bytes (Err e) small h
+
+-- what follows the entries behind the header follows all entries of the bytes
+pub all_followed : (kind : Kind) (options : Options) (bytes after : List ℕ) (offset : Option ℕ) (d : Declared)
+    (r : ReadAs) → r.object_hash ≡ kind → r.version ≡ d.version → IsDeclared kind options bytes (length bytes) offset d
+    → FollowCounted r d.count d.rest.now after → FollowEntries kind bytes after
+all_followed kind options bytes after offset d r same_kind same_version declared h = record {
+  version = d.version;
+  header = declared.header;
+  records = h.records;
+  entries = rw (sym same_kind, sym same_version, sym declared.rest) h.entries;
+  count = h.counted ∙ declared.count;
+}
 
 -- what is declared is what a look gives
 looks_behind : (kind : Kind) (options : Options) (bytes : List ℕ) (offset : Option ℕ) (r : Result Declared Error)
@@ -78,12 +110,19 @@ looks_fault : (kind : Kind) (options : Options) (bytes : List ℕ) (offset : Opt
 looks_fault kind options bytes offset (Ok d) marked h = h
 looks_fault kind options bytes offset (Err e) marked h = h refl marked
 
+looks_declared : (kind : Kind) (options : Options) (bytes : List ℕ) (offset : Option ℕ) (r : Result Declared Error)
+    → IsMarker kind bytes offset → IfOk r (IsDeclared kind options bytes (length bytes) offset)
+    → IfOk r (λ d. (o : Option ℕ) × IsMarker kind bytes o × IsDeclared kind options bytes (length bytes) o d)
+looks_declared kind options bytes offset (Ok d) marked h = (offset, marked, h)
+looks_declared kind options bytes offset (Err e) marked h = h
+
 pub looks_at : (kind : Kind) (options : Options) (bytes : List ℕ) (offset : Option ℕ) (r : Result Declared Error)
     → IsMarker kind bytes offset → IfOk r (IsDeclared kind options bytes (length bytes) offset)
     → IfErr r (λ e. length bytes ≡ length bytes → IsMarker kind bytes offset
     → (time : FileTime) → SaysFault e (IsAnswer kind time options bytes))
     → LooksAt kind options bytes r
 looks_at kind options bytes offset r marked declared fault = record {
+  declared = looks_declared kind options bytes offset r marked declared;
   behind = looks_behind kind options bytes offset r marked declared;
   fault = looks_fault kind options bytes offset r marked fault;
 }

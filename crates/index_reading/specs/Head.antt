@@ -1,7 +1,8 @@
 -- What the header of a file declares, and what that says of all its bytes (gitformat-index, "A 12-byte header").
-use Rattle.std.specs.Prelude.{◌≡◌, ◌↔◌, ℕ, nat_lt, List, drop, false, Option, Result, Ok, IfErr, IfOk}
+use Rattle.std.specs.Prelude.{◌≡◌, ◌↔◌, ℕ, nat_lt, List, drop, length, false, Option, Result, Ok, IfErr, IfOk}
 use Rattle.index_parts.specs.declared.hash.Kind.{Kind}
 use Rattle.index_metadata.specs.declared.entry.stat.FileTime.{FileTime}
+use Rattle.index_extensions.specs.EndMarker.{IsMarker}
 use Rattle.index_entries.specs.Header.{count_of, header_len, header_of}
 use Rattle.index_entries.specs.Limits.{is_too_large, most_entries}
 use Rattle.index_format.specs.Answer.{Answer, IsAnswer, IsBehindHeader}
@@ -20,9 +21,11 @@ pub record IsDeclared (kind : Kind) (options : Options) (head : List ℕ) (len :
   pub fits : nat_lt (most_entries len offset kind declared.version) declared.count ≡ false
   pub small : is_too_large options.alloc_limit_bytes declared.count len offset kind declared.version ≡ false
 
--- What a look at the header of all bytes of a file gives, whatever the file's time: the answer to all bytes is what
--- follows behind it, or it is this fault.
+-- What a look at the header of all bytes of a file gives, whatever the file's time: what the header declares, and that
+-- the answer to all bytes is what follows behind it; or this fault, which is the answer.
 pub record LooksAt (kind : Kind) (options : Options) (bytes : List ℕ) (result : Result Declared Error) : Type 0 where
+  pub declared : IfOk result (λ d. (offset : Option ℕ) × IsMarker kind bytes offset
+      × IsDeclared kind options bytes (length bytes) offset d)
   pub behind : IfOk result (λ d. (time : FileTime) (answer : Answer)
       → IsBehindHeader kind time options d.version d.count d.rest.now answer ↔ IsAnswer kind time options bytes answer)
   pub fault : IfErr result (λ e. (time : FileTime) → SaysFault e (IsAnswer kind time options bytes))

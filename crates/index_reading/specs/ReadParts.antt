@@ -1,11 +1,12 @@
 -- What the steps of reading a file give: by what it is read as, and of what was read (the library's own).
-use Rattle.std.specs.Prelude.{◌≡◌, ℕ, List, drop, length, MatchResult, Ok, Err, Option, Result}
+use Rattle.std.specs.Prelude.{◌≡◌, ℕ, List, drop, length, MatchResult, Ok, Err, None, Option, Result}
 use denote.Ref.{Bor}
 use Rattle.index_parts.specs.declared.hash.Kind.{Kind}
 use Rattle.index_parts.specs.declared.hash.ObjectId.{ObjectId}
 use Rattle.index_metadata.specs.declared.entry.stat.FileTime.{FileTime}
+use Rattle.index_entries.specs.Entries.{AreEntries}
 use Rattle.index_entries.specs.Header.{count_of, header_of}
-use Rattle.index_entries.specs.Record.{IdsAreOf}
+use Rattle.index_entries.specs.Record.{IdsAreOf, Record}
 use Rattle.index_entries.specs.declared.Version.{Version}
 use Rattle.index_entry_reading.specs.declared.entries.Read.{Read}
 use Rattle.index_extensions.specs.EndMarker.{IsMarker}
@@ -21,6 +22,7 @@ use Rattle.index_format.specs.declared.error.Error.{Error}
 use Rattle.index_format.specs.declared.error.Header.{Header}
 use Rattle.index_format.specs.declared.extension.Outcome.{Outcome}
 use Rattle.index_reading.specs.declared.decode.ReadAs.{ReadAs}
+use Rattle.index_reading.specs.declared.decode.ReadIndex.{ReadIndex}
 
 -- the parts stand in their storage, and all ids are of this kind
 pub record AreOfKind (kind : Kind) (parts : Parts) : Type 0 where
@@ -83,3 +85,16 @@ IsEndingAs r read answer =
 abbrev pub IsTakenAs : ReadAs → Read → Outcome → ℕ → List ℕ → Answer → Type 0
 IsTakenAs r read outcome left trailer answer =
     IsTaken r.object_hash r.timestamp r.options r.version read.list.records (outcome_of outcome) left trailer answer
+
+-- ---- the whole index
+
+-- the result is the answer that P holds of: the value with the trailer's id, or the fault
+abbrev pub SaysRead : Result ReadIndex Error → (Answer → Type 0) → Type 0
+SaysRead (Ok read) P = P (Ok (parts_contents read.parts, read.checksum))
+SaysRead (Err e) P = SaysFault e P
+
+-- bytes after as many entries as this count, which are at the front of the bytes after a header
+pub record FollowCounted (r : ReadAs) (count : ℕ) (bytes after : List ℕ) : Type 0 where
+  pub records : List Record
+  pub entries : AreEntries r.version r.object_hash None bytes records after
+  pub counted : length records ≡ count

@@ -17,7 +17,8 @@ ghost use Rattle.index_entries.specs.Record.{has_directory};
 ghost use Rattle.index_split.specs.Link.{link_of};
 ghost use Rattle.index_reading.specs.Head.{IsDeclared, LooksAt};
 ghost use Rattle.index_reading.specs.ReadParts.{AreOfKind, IsAnswerBehind, IsEndingAs, IsTakenAs};
-ghost use Rattle.index_reading.specs.ReadParts.{SaysDigest, SaysWhole};
+ghost use Rattle.index_reading.specs.ReadParts.{FollowCounted, SaysDigest, SaysRead, SaysWhole};
+ghost use Rattle.index_reading.specs.Behind.{FollowEntries};
 
 use crate::{extension, trailer};
 use index_entries::Version;
@@ -210,16 +211,28 @@ pub fn declared_in(data: &[u8], object_hash: Kind, options: Options) -> Result<D
     declared_by(data, data.len(), offset, object_hash, options)
 }
 
-/// The state of so many entries at the front of the bytes, and the end behind them.
+/// An index that was read from all bytes of its file.
+#[derive(Drop)]
+pub struct ReadIndex<'a> {
+    /// The parts of the index.
+    pub parts: Parts,
+    /// The id in the trailer, or None if the trailer is null.
+    pub checksum: Option<ObjectId>,
+    /// The bytes after the last entry: the extensions and the trailer.
+    pub ending: &'a [u8],
+}
+
+/// Reads so many entries from the front of the bytes, and the extensions and the trailer after them.
 fn read_behind_header(
     alloc: Global,
     read_as: ReadAs,
     count: u32,
     paths: usize,
     bytes: &[u8],
-) -> Result<(Parts, Option<ObjectId>), Error>
-    ensures behind { Says parts_contents result (IsAnswerBehind read_as count bytes.now) }
-    ensures parts { IfOk result (λ x. AreOfKind read_as.object_hash x.0) }
+) -> Result<ReadIndex<'_>, Error>
+    ensures behind { SaysRead result (IsAnswerBehind read_as count bytes.now) }
+    ensures parts { IfOk result (λ read. AreOfKind read_as.object_hash read.parts) }
+    ensures ending { IfOk result (λ read. FollowCounted read_as count bytes.now read.ending.now) }
 {
     let ReadAs {
         object_hash,
@@ -227,23 +240,30 @@ fn read_behind_header(
         ..
     } = read_as;
     let read = read_entries(alloc, version, object_hash, count, paths, bytes)?;
-    read_ending(alloc, read, read_as)
+    let ending = read.rest;
+    let (parts, checksum) = read_ending(alloc, read, read_as)?;
+    Ok(ReadIndex {
+        parts,
+        checksum,
+        ending,
+    })
 }
 
-/// Reads the parts of an index from all bytes of its file, and gives them with the trailer's id, or None where the
-/// trailer is null; or the first fault, in the order of the variants of [`Error`]. The digest isn't computed.
+/// Reads the parts of an index from all bytes of its file, and returns them with the trailer's id and the bytes after
+/// the last entry. An error is the first fault, in the order of the variants of [`Error`]. The digest isn't computed.
 pub fn from_bytes(
     alloc: Global,
     data: &[u8],
     timestamp: FileTime,
     object_hash: Kind,
     options: Options,
-) -> Result<(Parts, Option<ObjectId>), Error>
-    // The state or the first fault that the format gives these bytes.
-    ensures answer { Says parts_contents result
-        (IsAnswer object_hash timestamp options «data».now) }
-    ensures parts { IfOk result (λ x. AreOfKind object_hash x.0) }
-    ensures storable { IfOk result (λ x. IsStorable (parts_contents x.0)) }
+) -> Result<ReadIndex<'_>, Error>
+    // The value and the trailer's id, or the first fault that the format gives these bytes.
+    ensures answer { SaysRead result (IsAnswer object_hash timestamp options «data».now) }
+    ensures parts { IfOk result (λ read. AreOfKind object_hash read.parts) }
+    ensures storable { IfOk result (λ read. IsStorable (parts_contents read.parts)) }
+    ensures ending { IfOk result
+        (λ read. FollowEntries object_hash «data».now read.ending.now) }
 {
     let declared = declared_in(data, object_hash, options)?;
     let read_as = ReadAs {

@@ -48,7 +48,7 @@ impl State {
         ensures extension_ids { IfOk result
             (λ x. ExtensionIdsAreOf object_hash (contents x.0).extensions) }
     {
-        let (parts, checksum) = from_bytes(alloc, data, timestamp, object_hash, options)?;
-        Ok((State { parts }, checksum))
+        let read = from_bytes(alloc, data, timestamp, object_hash, options)?;
+        Ok((State { parts: read.parts }, read.checksum))
     }
 }

@@ -10,7 +10,7 @@ ghost use Rattle.index_table.specs.Filling.{FillsEntries, FillsOutline, HasEntri
 ghost use Rattle.index_table.specs.Reading.{sizes_of};
 ghost use Rattle.index_table.specs.Table.{FillsRecords};
 
-use crate::read::{Sizes, Unread, lacks_room, sizes_of};
+use crate::read::{Sizes, Unread, lacks_room, linked_id};
 use crate::row::{Row, row_from};
 use gix_index::decode::entry::{EntryReader, Pathless};
 use gix_index::file::Outline;
@@ -97,7 +97,12 @@ pub(crate) fn fill(entries: &[Entry], storage: &[u8], rows: &mut [Row], paths: &
 fn sizes_of_outline(outline: &Outline<'_>) -> Sizes
     ensures { (v : Contents) → Outlines v outline.now → result ≡ sizes_of v }
 {
-    sizes_of(&outline.bare, outline.count as usize, outline.path_bytes)
+    Sizes {
+        entries: outline.count as usize,
+        path_bytes: outline.path_bytes,
+        version: outline.version,
+        link: linked_id(outline.extensions.link.as_ref()),
+    }
 }
 
 /// Fills the entries of an outline into a table, if there is room.
@@ -113,7 +118,7 @@ pub(crate) fn table_of_outline(
     if lacks_room(&sizes, rows, paths) {
         return Err(Unread::NoRoom(sizes));
     }
-    let (version, kind) = (outline.bare.version(), outline.bare.object_hash());
+    let (version, kind) = (outline.version, outline.object_hash);
     fill_entries(version, kind, outline.count, outline.entries, rows, paths);
     Ok(sizes)
 }

@@ -1,6 +1,8 @@
 //! Reading an index into a caller's table.
 
+ghost use Rattle.std.specs.Option.{option_map};
 ghost use Rattle.std.specs.Prelude.{◌≡◌, All};
+ghost use Rattle.gix_index.specs.Link.{link_of};
 ghost use Rattle.gix_index.specs.Record.{IsSized};
 ghost use Rattle.gix_index.specs.State.{contents};
 ghost use Rattle.index_table.specs.Filling.{FillsIndex, FillsValue, TellsSmall};
@@ -11,6 +13,7 @@ use crate::fault::{Failure, Whose};
 use crate::filling::{fill, path_bytes_of, table_of_outline};
 use crate::row::Row;
 use gix_index::entry::FileTime;
+use gix_index::extension::Link;
 use gix_index::hash::{Kind, ObjectId};
 use gix_index::{File, State, Version, decode, file};
 use std::alloc::Global;
@@ -38,11 +41,11 @@ pub enum Unread {
     Failed(Failure),
 }
 
-/// The id of the shared index that a state links to.
-fn link_of(state: &State) -> Option<ObjectId>
-    ensures { result ≡ link_id (contents state.now).extensions.link }
+/// Returns the id of the shared index that a link names.
+pub(crate) fn linked_id(link: Option<&Link>) -> Option<ObjectId>
+    ensures { result ≡ link_id (option_map (λ l. link_of l.now) link) }
 {
-    match state.link() {
+    match link {
         Some(link) => Some(link.shared_index_checksum),
         None => None,
     }
@@ -56,7 +59,7 @@ pub fn sizes_of(state: &State, entries: usize, path_bytes: usize) -> Sizes
         entries,
         path_bytes,
         version: state.version(),
-        link: link_of(state),
+        link: linked_id(state.link()),
     }
 }
 

@@ -14,6 +14,8 @@ use Rattle.gix_index.specs.Disk.World.{Known, World}
 use Rattle.gix_index.specs.FileFaults.{SaysOfFile}
 use Rattle.gix_index.specs.FileFaults.ReadError.{Error as ReadFault}
 use Rattle.gix_index.specs.FileFaults.ReadError.TheVariants as reads
+use Rattle.std.specs.declared.io.Error.{Error as IoError}
+use Rattle.index_text.specs.Blocks.{PutsText}
 use Rattle.index_json.specs.Json.{json_text}
 use Rattle.index_marks.specs.Marks.{AreMarks}
 use Rattle.index_show.specs.Show.{show_lines}
@@ -23,6 +25,8 @@ use Rattle.index_failures.specs.declared.failure.Failure.{Failure}
 use Rattle.index_failures.specs.Options.{unlimited_options, IsBeginOf1970}
 use Rattle.index_failures.specs.Reading.{FailsReading}
 use Rattle.index_failures.specs.Telling.{EndsTelling, NoText}
+use Rattle.index_telling.specs.declared.show.ShowFormat.{ShowFormat}
+use Rattle.index_telling.specs.declared.show.ShowFormat.TheVariants as formats
 use Rattle.index_telling.specs.declared.show.Told.{Told}
 
 -- The file's bytes are read as the value, by themselves, and say this by the offset table and the end marker behind their
@@ -47,12 +51,13 @@ pub record IsOfContents (text : Contents → Option ObjectId → Marks → List 
   pub held : IsInBytes known kind value checksum marks
   pub is : told ≡ text value checksum marks
 
--- as lines, and as JSON
-abbrev pub IsShown : Known → Kind → List ℕ → Type 0
-IsShown known kind text = IsOfContents show_lines known kind text
+-- the text of a value in each format
+abbrev pub shown_text : ShowFormat → Contents → Option ObjectId → Marks → List ℕ
+shown_text formats.Lines value checksum marks = show_lines value checksum marks
+shown_text formats.Json value checksum marks = json_text value checksum marks
 
-abbrev pub IsJson : Known → Kind → List ℕ → Type 0
-IsJson known kind text = IsOfContents json_text known kind text
+abbrev pub IsShown : ShowFormat → Known → Kind → List ℕ → Type 0
+IsShown format known kind text = IsOfContents (shown_text format) known kind text
 
 -- The fault is why the file at a path of a place that works, or may fail, isn't read by itself. Want of memory says
 -- nothing.
@@ -76,13 +81,13 @@ pub record ReadsAlone {S F M : Type 0} (folder : Folder S F M) (now : S) (kind :
   pub placed : IfOk answer (λ told. PathsInStorage (state_of told.index))
   pub fault : IfErr answer (FailsToReadAlone folder now kind path)
 
--- that is told as lines, or why it isn't; and as JSON
-abbrev pub ShowsFile : {S F M T : Type 0} → Folder S F M → S → Kind → List ℕ → Output T → T → T
-    → Result (Unit {0}) Failure → Type 0
-ShowsFile folder now kind path writer old new answer = EndsTelling writer old new
-    (IsShown (folder.known now path) kind) NoText (FailsToReadAlone folder now kind path) path answer
+-- the text in this format of what was read, or why it isn't written
+abbrev pub PutsShown : {T : Type 0} → ShowFormat → Told → Output T → T → T → Result (Unit {0}) IoError → Type 0
+PutsShown format told writer old new answer = PutsText writer old new answer
+    (shown_text format (contents (state_of told.index)) (checksum_of told.index) told.marks)
 
-abbrev pub ShowsJson : {S F M T : Type 0} → Folder S F M → S → Kind → List ℕ → Output T → T → T
+-- that text of a file, or why it isn't written
+abbrev pub ShowsFile : {S F M T : Type 0} → ShowFormat → Folder S F M → S → Kind → List ℕ → Output T → T → T
     → Result (Unit {0}) Failure → Type 0
-ShowsJson folder now kind path writer old new answer = EndsTelling writer old new
-    (IsJson (folder.known now path) kind) NoText (FailsToReadAlone folder now kind path) path answer
+ShowsFile format folder now kind path writer old new answer = EndsTelling writer old new
+    (IsShown format (folder.known now path) kind) NoText (FailsToReadAlone folder now kind path) path answer

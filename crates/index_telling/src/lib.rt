@@ -7,4 +7,3 @@ mod mapping;
 pub mod salvage;
 mod shared;
 pub mod show;
-pub mod show_json;

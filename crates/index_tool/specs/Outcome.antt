@@ -17,7 +17,8 @@ use Rattle.index_commands.specs.Updating.{FailsToStoreUpdate, Updates}
 use Rattle.index_telling.specs.declared.salvage.Report.{Report}
 use Rattle.index_telling.specs.Mapping.{IsDamagedMap, IsDamagedPicture, IsMap, IsPicture}
 use Rattle.index_telling.specs.Salvaging.{FailsToSalvage, Salvages}
-use Rattle.index_telling.specs.Showing.{IsJson, IsShown}
+use Rattle.index_telling.specs.Showing.{IsShown}
+use Rattle.index_telling.specs.declared.show.ShowFormat.TheVariants as formats
 use Rattle.index_words.specs.declared.command.Reading.{Reading}
 use Rattle.index_words.specs.declared.command.Reading.TheVariants as readings
 use Rattle.index_words.specs.declared.command.Writing.{Writing}
@@ -43,8 +44,8 @@ IsTold (readings.Check strict) world kind file text = IsPassed (plain_checks str
 IsTold (readings.CheckTrees strict) world kind file text = IsPassed (tree_checks strict) (disk_at world file) kind text
 IsTold (readings.Map lines) world kind file text = IsMap lines None (world file) kind text
 IsTold readings.MapSvg world kind file text = IsPicture None (world file) kind text
-IsTold readings.Show world kind file text = IsShown (world file) kind text
-IsTold readings.ShowJson world kind file text = IsJson (world file) kind text
+IsTold readings.Show world kind file text = IsShown formats.Lines (world file) kind text
+IsTold readings.ShowJson world kind file text = IsShown formats.Json (world file) kind text
 IsTold (readings.Trees lines) world kind file text = AreTrees lines (disk_at world file) kind text
 
 -- what is told of one with this first fault, which stands there: its map or its picture, and else nothing

@@ -13,7 +13,6 @@ ghost use Rattle.index_tool.specs.Outcome.{form4_of, form_of, plain_checks, tree
 
 use crate::line::{put_line, put_text};
 use crate::terminal::{Console, STANDARD_INPUT};
-use gix_index::file::PathError;
 use gix_index::file::folder::{Folder, Standing};
 use gix_index::hash::Kind;
 use gix_index::hash::io::Out;
@@ -28,11 +27,9 @@ use index_input::{Surroundings, index_path, kind_at};
 use index_telling::map::map;
 use index_telling::map_svg::map_svg;
 use index_telling::salvage::{Report, salvage};
-use index_telling::show::show;
-use index_telling::show_json::show_json;
+use index_telling::show::{ShowFormat, show};
 use index_words::{Answer, Command, Input, Reading, Writing, parse};
 use std::alloc::Global;
-use std::io::ErrorKind;
 use std::path::{Path, PathBuf};
 use std::{fmt, io};
 
@@ -57,11 +54,8 @@ fn hold<D: Console>(folder: &mut D, alloc: Global) -> Result<(), index_input::Er
     ensures { HoldsInput D.Folder folder.old folder.new result }
 {
     if let Err(error) = folder.hold_input(alloc) {
-        if error.kind() == ErrorKind::OutOfMemory {
-            return Err(index_input::Error::Memory);
-        }
         let path = PathBuf::from_str(alloc, STANDARD_INPUT)?;
-        return Err(index_input::Error::Io(PathError { path, error }));
+        return Err(index_input::Error::of(path, error));
     }
     Ok(())
 }
@@ -146,8 +140,8 @@ fn tell<'a, D: Folder, W: Out>(
         }
         Reading::Map(lines) => map(folder, alloc, lines, kind, path, out),
         Reading::MapSvg => map_svg(folder, alloc, kind, path, out),
-        Reading::Show => show(folder, alloc, kind, path, out),
-        Reading::ShowJson => show_json(folder, alloc, kind, path, out),
+        Reading::Show => show(folder, alloc, ShowFormat::Lines, kind, path, out),
+        Reading::ShowJson => show(folder, alloc, ShowFormat::Json, kind, path, out),
         Reading::Trees(lines) => trees(folder, alloc, lines, kind, path, out),
     }
 }

@@ -22,7 +22,7 @@ use Rattle.index_format.specs.declared.decode.Options.{Options}
 use Rattle.index_format.specs.Answer.{IsAnswer, IsEnding, IsBehindHeader, has}
 use Rattle.index_format.specs.Contents.{parts_contents}
 use Rattle.index_format.proofs.Answers.{answer_from}
-use Rattle.index_window.specs.Behind.{FollowEntries}
+use Rattle.index_reading.specs.Behind.{FollowEntries}
 use Rattle.index_window.specs.Windowed.{Moment, IsPassedOn, IsReadOn}
 use Rattle.index_window.specs.declared.plan.Plan.{Plan}
 

@@ -6,7 +6,7 @@ use Rattle.index_format.specs.Answer.{IsAnswer, IsEnding}
 use Rattle.index_format.specs.Contents.{ExtensionIdsAreOf, PartsInStorage, parts_contents, parts_entries}
 use Rattle.index_format.specs.Storable.{IsStorable}
 use Rattle.index_reading.specs.ReadParts.{AreOfKind}
-use Rattle.index_window.specs.Behind.{FollowEntries}
+use Rattle.index_reading.specs.Behind.{FollowEntries}
 use Rattle.index_window.specs.Intact.{IsIntact}
 use Rattle.index_window.specs.declared.ReadOptions.{ReadOptions}
 use Rattle.index_window.specs.declared.plan.Plan.{Plan}

@@ -1,6 +1,5 @@
 pub mod Abridged
 pub mod Answers
-pub mod Behind
 pub mod Counted
 pub mod Entries
 pub mod Intact

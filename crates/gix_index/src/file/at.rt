@@ -16,7 +16,7 @@ ghost use Rattle.gix_index.specs.OnSystem.{LoadsOnSystem, LoadsTelling, ReadsOnS
 use super::File;
 use super::init::Error;
 use super::split::take_followed_link;
-use super::unfollowed::{read_fault, read_file};
+use super::unfollowed::read_file;
 use index_folder::folder::{Folder, Source};
 use index_folder::system::System;
 use index_format::decode;
@@ -54,7 +54,7 @@ fn shared_at<D: Folder>(
     let shared = shared_path(alloc, path, &id)?;
     let file = match folder.open(shared.as_path()) {
         Ok(file) => file,
-        Err(e) => return Err(read_fault(shared, e)),
+        Err(e) => return Err(Error::of(shared, e)),
     };
     let mut options = reading.options;
     options.expected_checksum = Some(id);
@@ -127,11 +127,11 @@ pub(super) fn read_from<D: Folder>(
                 path,
             ));
         }
-        Err(e) => return Err(read_fault(path, e)),
+        Err(e) => return Err(Error::of(path, e)),
     };
     let timestamp = match time_of(&file, has_time, reading.timestamp) {
         Ok(timestamp) => timestamp,
-        Err(e) => return Err(read_fault(path, e)),
+        Err(e) => return Err(Error::of(path, e)),
     };
     let reading = ReadOptions {
         timestamp,

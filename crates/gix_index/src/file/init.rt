@@ -5,14 +5,16 @@ ghost use Rattle.std.specs.Path.{path_buf_bytes};
 ghost use Rattle.gix_index.specs.Checked.{IsFileAnswer, SaysFile};
 ghost use Rattle.index_window.specs.Intact.{digest_fault, digest_id, IsIntact, IsBroken};
 ghost use Rattle.gix_index.specs.File.{IsFileOf};
-ghost use Rattle.gix_index.specs.ReadFile.{IsAnswerBy};
-ghost use Rattle.gix_index.specs.OnDisk.{FileIdsAreOf, NeedsIntact};
+ghost use Rattle.gix_index.specs.ReadFile.{IsAnswerBy, IsReadFrom};
+ghost use Rattle.gix_index.specs.OnDisk.{FileIdsAreOf, IsFileFault, NeedsIntact};
+ghost use Rattle.index_reading.specs.Behind.{FollowEntries};
 
 use super::File;
 pub use index_file_faults::init::Error;
 use index_format::decode;
 use index_metadata::entry::FileTime;
 use index_parts::hash::{Kind, ObjectId, digest};
+use index_reading::decode::from_bytes;
 use index_reading::trailer;
 use index_state::State;
 use index_window::ReadOptions;
@@ -47,21 +49,35 @@ pub fn check(
     Ok(())
 }
 
-/// The index in a file's bytes. The digest of all but the trailer is taken where it is to be compared and isn't known
-/// yet.
-pub(super) fn decoded(
+/// An index that was read from all bytes of its file.
+#[derive(Drop)]
+pub(super) struct Decoded<'a> {
+    /// The index.
+    pub file: File,
+    /// The bytes after its last entry: the extensions and the trailer.
+    pub ending: &'a [u8],
+}
+
+/// Returns the index in all bytes of a file, with the bytes after its last entry. The digest of all bytes but the
+/// trailer is computed if it is to be compared and isn't known.
+pub(super) fn decoded_knowing(
     alloc: Global,
     bytes: &[u8],
     known: Option<ObjectId>,
     path: PathBuf,
     reading: ReadOptions,
-) -> Result<File, Error>
+) -> Result<Decoded<'_>, Error>
     requires known { IfSome known (λ id. id ≡ digest_id reading.object_hash bytes.now) }
-    ensures answer { SaysFile result (IsAnswerBy reading bytes.now) }
-    ensures intact { IfErr result (NeedsIntact reading.skip_hash reading.object_hash bytes.now) }
-    ensures formed { IfOk result (IsFileOf (path_buf_bytes path) reading.object_hash) }
+    ensures read { IfOk result (λ decoded. IsReadFrom reading bytes.now decoded.file) }
+    ensures ending { IfOk result
+        (λ decoded. FollowEntries reading.object_hash bytes.now decoded.ending.now) }
+    ensures formed { IfOk result
+        (λ decoded. IsFileOf (path_buf_bytes path) reading.object_hash decoded.file) }
     ensures extension_ids { IfOk result
-        (FileIdsAreOf reading.object_hash) }
+        (λ decoded. FileIdsAreOf reading.object_hash decoded.file) }
+    ensures fault { IfErr result (IsFileFault reading.skip_hash reading.object_hash
+        reading.timestamp reading.options bytes.now) }
+    ensures intact { IfErr result (NeedsIntact reading.skip_hash reading.object_hash bytes.now) }
 {
     let ReadOptions {
         object_hash,
@@ -70,12 +86,36 @@ pub(super) fn decoded(
         options,
     } = reading;
     check(bytes, known, object_hash, skip_hash)?;
-    let (state, checksum) = State::from_bytes(alloc, bytes, timestamp, object_hash, options)?;
-    Ok(File {
-        state,
+    let read = from_bytes(alloc, bytes, timestamp, object_hash, options)?;
+    let file = File {
+        state: State::from(read.parts),
         path,
-        checksum,
+        checksum: read.checksum,
+    };
+    Ok(Decoded {
+        file,
+        ending: read.ending,
     })
+}
+
+/// Returns the index in all bytes of a file. The digest of all bytes but the trailer is computed if it is to be
+/// compared.
+pub(super) fn decoded(
+    alloc: Global,
+    bytes: &[u8],
+    path: PathBuf,
+    reading: ReadOptions,
+) -> Result<File, Error>
+    ensures answer { SaysFile result (IsAnswerBy reading bytes.now) }
+    ensures intact { IfErr result (NeedsIntact reading.skip_hash reading.object_hash bytes.now) }
+    ensures formed { IfOk result (IsFileOf (path_buf_bytes path) reading.object_hash) }
+    ensures extension_ids { IfOk result
+        (FileIdsAreOf reading.object_hash) }
+{
+    match decoded_knowing(alloc, bytes, None, path, reading) {
+        Ok(decoded) => Ok(decoded.file),
+        Err(e) => Err(e),
+    }
 }
 
 impl File {
@@ -110,6 +150,6 @@ impl File {
             timestamp,
             options,
         };
-        decoded(alloc, data, None, path, reading)
+        decoded(alloc, data, path, reading)
     }
 }

@@ -1,7 +1,6 @@
 //! An index in the bytes of its file, for a caller that puts each entry somewhere itself.
 
 ghost use Rattle.std.specs.Prelude.{IfErr, IfOk};
-ghost use Rattle.index_state.specs.State.{PathsInStorage};
 ghost use Rattle.gix_index.specs.Outlined.{IsOutlined};
 ghost use Rattle.gix_index.specs.OnDisk.{IsFileFault, NeedsIntact};
 ghost use Rattle.index_outline.specs.Outlines.{OutlineIdsAreOf};
@@ -35,7 +34,6 @@ impl File {
         ensures fault { IfErr result (IsFileFault skip_hash object_hash timestamp options
             «data».now) }
         ensures intact { IfErr result (NeedsIntact skip_hash object_hash «data».now) }
-        ensures placed { IfOk result (λ o. PathsInStorage o.bare) }
         ensures extension_ids { IfOk result
             (OutlineIdsAreOf object_hash) }
     {

@@ -54,14 +54,14 @@ impl File {
         ensures fault { IfErr result
             (SaysOfBothInHand «data».now shared.now reading) }
     {
-        let mut file = decoded(alloc, data, None, path, reading)?;
+        let mut file = decoded(alloc, data, path, reading)?;
         let Some(link) = take_followed_link(&mut file.state) else {
             return Ok(file);
         };
         let mut options = reading.options;
         options.expected_checksum = Some(link.shared_index_checksum);
         let reading = ReadOptions { options, ..reading };
-        let index = decoded(alloc, shared, None, PathBuf::new(alloc), reading)?;
+        let index = decoded(alloc, shared, PathBuf::new(alloc), reading)?;
         let (shared, _) = index.into_parts();
         link.dissolve_into(alloc, &mut file.state, shared)?;
         Ok(file)

@@ -1,33 +1,27 @@
 //! Reading an index from the disk by itself: in windows or whole, with the bytes behind its entries or without.
 
-ghost use Rattle.std.specs.Prelude.{◌≡◌, Option, IfErr, IfNone, IfOk, IfSome, Ok};
+ghost use Rattle.std.specs.Prelude.{◌≡◌, Option, IfErr, IfOk, IfSome, Ok};
 ghost use Rattle.std.specs.Path.{path_buf_bytes};
 ghost use Rattle.index_folder.specs.World.{whole_of};
 ghost use Rattle.index_format.specs.declared.decode.Options.{Options};
 ghost use Rattle.index_parts.specs.declared.hash.ObjectId.{ObjectId};
-ghost use Rattle.index_window.specs.Behind.{FollowEntries};
 ghost use Rattle.index_window.specs.Intact.{digest_id};
 ghost use Rattle.gix_index.specs.Disk.{known_of};
-ghost use Rattle.gix_index.specs.ReadFile.{IsFileReadKeeping, IsNoIndex, IsReadKeeping, SaysOfAny};
+ghost use Rattle.gix_index.specs.ReadFile.{IsFileReadKeeping, IsReadKeeping};
 ghost use Rattle.gix_index.specs.ReadFile.{SaysOfHolder};
 ghost use Rattle.gix_index.specs.OnDisk.{IsAloneOf, ReadsAloneAt, SaysOfSource};
 
 use super::File;
-use super::init::{Error, decoded};
-use index_folder::fault::PathError;
+use super::init::{Error, decoded_knowing};
 use index_folder::folder::{Folder, Source};
 use index_format::decode;
 use index_metadata::entry::FileTime;
 use index_parts::hash::{Kind, ObjectId};
-use index_reading::decode::header;
 use index_state::State;
 use index_window::ReadOptions;
 use index_window::disk::{WholeFile, bytes_of};
 use index_window::large::in_windows;
-use index_window::passed::pass_entries;
 use std::alloc::Global;
-use std::io;
-use std::io::ErrorKind;
 use std::path::PathBuf;
 
 /// An index that was read by itself, and the end of its file.
@@ -39,32 +33,8 @@ pub struct Unfollowed {
     pub ending: Vec<u8>,
 }
 
-/// What it says that a file can't be opened or read.
-pub(super) fn read_fault(path: PathBuf, error: io::Error) -> Error
-    ensures { SaysOfAny (path_buf_bytes path) error result }
-{
-    if error.kind() == ErrorKind::OutOfMemory {
-        return Error::Memory;
-    }
-    Error::Io(PathError { path, error })
-}
-
-/// The bytes behind the entries of a file; None only where it is no index.
-fn behind_entries(kind: Kind, bytes: &[u8]) -> Option<&[u8]>
-    ensures found { IfSome result (λ rest. FollowEntries kind bytes.now rest.now) }
-    ensures none { IfNone result (IsNoIndex kind bytes.now) }
-{
-    let Ok((version, count, entries)) = header::decode(bytes, kind) else {
-        return None;
-    };
-    match pass_entries(version, kind, count, entries) {
-        Ok(passed) => Some(passed.rest),
-        Err(_) => None,
-    }
-}
-
-/// The index in all bytes of a file, with those behind its entries where they are kept. The digest is taken where it is
-/// to be compared and isn't known yet.
+/// Returns the index in all bytes of a file, with a copy of the bytes after its entries if they are kept. The digest is
+/// computed if it is to be compared and isn't known.
 fn decoded_whole(
     alloc: Global,
     bytes: &[u8],
@@ -79,15 +49,12 @@ fn decoded_whole(
         (IsAloneOf (path_buf_bytes path) reading.object_hash) }
     ensures fault { IfErr result (SaysOfHolder (path_buf_bytes path) bytes.now reading) }
 {
-    let index = decoded(alloc, bytes, known, path, reading)?;
+    let decoded = decoded_knowing(alloc, bytes, known, path, reading)?;
+    let (index, rest) = (decoded.file, decoded.ending);
+    let mut ending = Vec::new(alloc);
     if !keeps_ending {
-        let ending = Vec::new(alloc);
         return Ok(Unfollowed { index, ending });
     }
-    let Some(rest) = behind_entries(reading.object_hash, bytes) else {
-        unreachable!()
-    };
-    let mut ending = Vec::with_capacity(alloc, rest.len())?;
     ending.extend_from_slice(rest)?;
     Ok(Unfollowed { index, ending })
 }
@@ -121,14 +88,14 @@ pub(super) fn read_file<S: Source>(
             });
         }
         Ok(None) => {}
-        Err(e) => return Err(read_fault(path, e)),
+        Err(e) => return Err(Error::of(path, e)),
     }
     match bytes_of(alloc, file, reading.object_hash, reading.skip_hash) {
         Ok(WholeFile::Held(bytes, digest)) => {
             decoded_whole(alloc, &bytes, digest, path, reading, keeps_ending)
         }
         Ok(WholeFile::Refused(e)) => Err(Error::Decode(e)),
-        Err(e) => Err(read_fault(path, e)),
+        Err(e) => Err(Error::of(path, e)),
     }
 }
 
@@ -159,7 +126,7 @@ impl File {
         };
         match folder.open(path.as_path()) {
             Ok(file) => read_file(alloc, file, path, reading, true),
-            Err(e) => Err(read_fault(path, e)),
+            Err(e) => Err(Error::of(path, e)),
         }
     }
 }

@@ -15,7 +15,6 @@ use index_folder::system::System;
 use index_folder::whole::bytes_at;
 use index_parts::hash::{ObjectId, digest};
 use std::alloc::Global;
-use std::io::ErrorKind;
 use std::rt::Files;
 
 /// Compares the digest of all bytes but the last, of which the checksum has as many, with the checksum
@@ -62,11 +61,11 @@ impl File {
         match bytes_at(folder, alloc, self.path.as_path()) {
             Ok((data, _)) => bytes(&data, checksum),
             Err(error) => {
-                if error.kind() == ErrorKind::OutOfMemory {
-                    return Err(Error::Memory);
-                }
                 let path = self.path.clone()?;
-                Err(Error::Io(PathError { path, error }))
+                match PathError::of(path, error) {
+                    Some(fault) => Err(Error::Io(fault)),
+                    None => Err(Error::Memory),
+                }
             }
         }
     }

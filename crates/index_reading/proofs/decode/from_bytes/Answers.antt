@@ -1,8 +1,8 @@
-use Rattle.std.proofs.Common.{◌<◌, ℕ, List, get_or, Fits, w8, arith}
+use Rattle.std.proofs.Common.{◌<◌, ℕ, List, get_or, Fits, w8, arith, refl}
+use Rattle.std.proofs.lemmas.Result.{IfOk-weaker}
 use Rattle.std.proofs.lemmas.List.Elements.{All-from_get_or}
 use Rattle.index_entries.specs.Record.{AreBytes}
-use Rattle.index_format.proofs.ReadValues.{says_storable}
-use Rattle.index_reading.proofs.Headed.{says_answer}
+use Rattle.index_reading.proofs.Headed.{all_followed, read_storable, says_answer}
 use Rattle.index_reading.proofs.decode.from_bytes.Goals as goal
 
 abbrev AreSmall : List ℕ → Type 0
@@ -19,5 +19,13 @@ returns-clause-answer c =
     c.read_behind_header.result (c.in_ok-declared.ensures.behind a.timestamp) c.read_behind_header.ensures.behind
 
 pub returns-clause-storable : goal.returns-clause-storable
-returns-clause-storable c = says_storable c.args.object_hash c.args.timestamp c.args.options c.args.data.now
+returns-clause-storable c = read_storable c.args.object_hash c.args.timestamp c.args.options c.args.data.now
     c.read_behind_header.result (are_bytes c.args.data.now c.type_inv.data) (returns-clause-answer c)
+
+pub returns-clause-ending : goal.returns-clause-ending
+returns-clause-ending c =
+    let d = c.in_ok-declared.ensures.declared in
+    IfOk-weaker c.read_behind_header.result _ _
+    (λ read h. all_followed c.args.object_hash c.args.options c.args.data.now read.ending.now d.0
+    c.in_ok-declared.declared _ refl refl d.2 h)
+    c.read_behind_header.ensures.ending

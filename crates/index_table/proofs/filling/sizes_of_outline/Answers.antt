@@ -1,8 +1,12 @@
-use Rattle.gix_index.specs.State.{contents}
+use Rattle.std.proofs.Common.{◌≡◌, rules}
+use Rattle.std.specs.Option.{option_map}
+use Rattle.gix_index.specs.Link.{link_of}
+use Rattle.index_table.specs.Reading.{link_id}
 use Rattle.index_table.proofs.OutlinedTables.{outline_tells}
 use Rattle.index_table.proofs.filling.sizes_of_outline.Goals as goal
 
 pub returns : goal.returns
 returns c = λ v h.
-    outline_tells v (contents c.args.outline.now.bare) c.sizes_of.result c.args.outline.now.count
-    c.args.outline.now.path_bytes h.bare h.count h.path_bytes c.sizes_of.ensures
+    let o = c.args.outline.now in
+    let link : c.linked_id.result ≡ link_id (option_map link_of o.extensions.link) = search rules in
+    rw link (outline_tells v o h)

@@ -12,8 +12,7 @@ fill_entries-requires-clause-entries c =
     ap (λ (s : Sizes). s.path_bytes) (c.sizes_of_outline-sizes.ensures v h) in (
       v.records,
       h.after,
-      outlined_entries v c.args.outline.now c.version-version.result c.object_hash-kind.result h
-          c.version-version.ensures c.object_hash-kind.ensures,
+      outlined_entries v c.args.outline.now h,
       sym h.count,
       omega (arith, path_bytes, c.lacks_room.ensures.paths_fit c.if-lacks_room.false),
       c.requires.2.fits,
@@ -24,9 +23,7 @@ returns c =
     record {
       done = λ v h. record {
         sizes_are = c.sizes_of_outline-sizes.ensures v h;
-        holds = c.fill_entries.ensures v.records h.after (outlined_entries v c.args.outline.now
-            c.version-version.result
-            c.object_hash-kind.result h c.version-version.ensures c.object_hash-kind.ensures) (sym h.count);
+        holds = c.fill_entries.ensures v.records h.after (outlined_entries v c.args.outline.now h) (sym h.count);
       };
       no_room = search rules;
       failed = search rules;

@@ -4,47 +4,49 @@ use Rattle.std.proofs.lemmas.Result.{err_from_is_err_and}
 use Rattle.gix_index.specs.File.{checksum_of, state_of}
 use Rattle.gix_index.specs.State.{contents}
 use Rattle.index_failures.specs.Telling.{part, untold}
-use Rattle.index_show.specs.Show.{show_lines}
+use Rattle.index_telling.specs.Showing.{shown_text}
 use Rattle.index_telling.proofs.show.show.Goals as goal
 
-pub returns-in_err-index : goal.returns-in_err-index
-returns-in_err-index g c =
+pub returns-in_err-told : goal.returns-in_err-told
+returns-in_err-told g c =
     let p = err_from_is_err_and c.from_residual.result c.from_residual.ensures.1 in
     rw (p.1, p.2) (record {
       told = tt;
-      refused = untold c.in_err-index.ensures.fault (Keeps-refl (g.W.Out.taken c.args.out.now));
+      refused = untold c.in_err-told.ensures.fault (Keeps-refl (g.W.Out.taken c.args.out.now));
     })
 
 pub returns-in-Ok : goal.returns-in-Ok
-returns-in-Ok g c = record {
-  told = record {
-    text = show_lines (contents (state_of c.in_ok-index.field-0.index)) (checksum_of c.in_ok-index.field-0.index)
-        c.in_ok-index.field-0.marks;
-    is = record {
-      value = contents (state_of c.in_ok-index.field-0.index);
-      checksum = checksum_of c.in_ok-index.field-0.index;
-      marks = c.in_ok-index.field-0.marks;
-      held = c.in_ok-index.ensures.told;
-      is = refl;
-    };
-    grew = rw (c.deref.ensures, c.checksum.ensures) at c.in-Ok.ensures.ok;
-  };
-  refused = tt;
-}
+returns-in-Ok g c =
+    let told = c.in_ok-told.told in
+    record {
+      told = record {
+        text = shown_text c.args.format (contents (state_of told.index)) (checksum_of told.index) told.marks;
+        is = record {
+          value = contents (state_of told.index);
+          checksum = checksum_of told.index;
+          marks = told.marks;
+          held = c.in_ok-told.ensures.told;
+          is = refl;
+        };
+        grew = c.in-Ok.ensures.ok;
+      };
+      refused = tt;
+    }
 
 pub returns : goal.returns
-returns g c = record {
-  told = tt;
-  refused = part c.in-Err.e refl c.in-Err.ensures.cause (record {
-    text = show_lines (contents (state_of c.in_ok-index.field-0.index)) (checksum_of c.in_ok-index.field-0.index)
-        c.in_ok-index.field-0.marks;
-    is = inl (record {
-      value = contents (state_of c.in_ok-index.field-0.index);
-      checksum = checksum_of c.in_ok-index.field-0.index;
-      marks = c.in_ok-index.field-0.marks;
-      held = c.in_ok-index.ensures.told;
-      is = refl;
-    });
-    grew = rw (c.deref.ensures, c.checksum.ensures) at c.in-Err.ensures.err;
-  });
-}
+returns g c =
+    let told = c.in_ok-told.told in
+    record {
+      told = tt;
+      refused = part c.in-Err.e refl c.in-Err.ensures.cause (record {
+        text = shown_text c.args.format (contents (state_of told.index)) (checksum_of told.index) told.marks;
+        is = inl (record {
+          value = contents (state_of told.index);
+          checksum = checksum_of told.index;
+          marks = told.marks;
+          held = c.in_ok-told.ensures.told;
+          is = refl;
+        });
+        grew = c.in-Err.ensures.err;
+      });
+    }

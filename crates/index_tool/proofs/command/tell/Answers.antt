@@ -68,10 +68,11 @@ returns-in-Show g c =
 pub returns-in-ShowJson : goal.returns-in-ShowJson
 returns-in-ShowJson g c =
     rw c.in-ShowJson.is (record {
-      told = c.show_json.ensures.told;
+      told = c.show-in-ShowJson.ensures.told;
       refused = telling_refused (g.D.Folder.known c.args.folder.now)
           (FailsReading (SaysOfFileAlone (g.D.Folder.works c.args.folder.now) (g.D.Folder.known c.args.folder.now) c.args.kind c.args.path.now) c.args.path.now)
-          readings.ShowJson c.args.kind c.args.path.now _ _ _ c.show_json.result c.show_json.ensures.refused;
+          readings.ShowJson c.args.kind c.args.path.now _ _ _ c.show-in-ShowJson.result
+          c.show-in-ShowJson.ensures.refused;
     })
 
 pub returns-in-Trees : goal.returns-in-Trees

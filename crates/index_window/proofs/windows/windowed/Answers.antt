@@ -13,7 +13,7 @@ use Rattle.index_format.specs.Answer.{IsEnding}
 use Rattle.index_format.specs.Contents.{parts_contents}
 use Rattle.index_format.proofs.ReadValues.{says_storable}
 use Rattle.index_window.specs.Abridged.{IsAbridgedOn}
-use Rattle.index_window.specs.Behind.{FollowEntries}
+use Rattle.index_reading.specs.Behind.{FollowEntries}
 use Rattle.index_window.specs.Intact.{IsIntact}
 use Rattle.index_window.specs.Marked.{HasPassed}
 use Rattle.index_window.specs.Windowed.{Moment, IsMovedOn, IsReadOn, moment_of}

@@ -1,13 +1,14 @@
 use Rattle.std.specs.Path.{path_buf_bytes, path_bytes}
 use Rattle.gix_index.specs.Disk.{known_of}
-use Rattle.gix_index.proofs.FileFaults.{alone_kept, alone_there, fault_read}
+use Rattle.gix_index.proofs.FileFaults.{alone_kept, alone_there, call_says, fault_read}
 use Rattle.gix_index.proofs.file.File.unfollowed_at.Goals as goal
 
 pub returns-in-Err : goal.returns-in-Err
 returns-in-Err g c = record {
   read = tt;
   formed = tt;
-  fault = c.read_fault.ensures (g.D.Folder.works c.args.folder.now)
+  fault = call_says (path_buf_bytes c.args.path) c.in-Err.e c.of.result c.of.ensures
+      (g.D.Folder.works c.args.folder.now)
       (g.D.Folder.known c.args.folder.now (path_buf_bytes c.args.path))
       (rw c.as_path.ensures at c.in-Err.ensures.fault) c.args.skip_hash c.args.object_hash c.args.timestamp
       c.args.options;

@@ -6,7 +6,7 @@ use Rattle.gix_index.specs.File.{checksum_of, state_of}
 use Rattle.gix_index.specs.FileFaults.{SaysOfFile}
 use Rattle.gix_index.specs.Linked.{IsReadAs, expecting}
 use Rattle.gix_index.specs.Disk.{known_of, shared_path}
-use Rattle.gix_index.proofs.FileFaults.{fault_there, file_read, read_there}
+use Rattle.gix_index.proofs.FileFaults.{call_says, fault_there, file_read, read_there}
 use Rattle.gix_index.proofs.file.at.shared_at.Goals as goal
 
 pub returns-in-Err-clause-fault : goal.returns-in-Err-clause-fault
@@ -15,9 +15,10 @@ returns-in-Err-clause-fault g c =
     let options = expecting r.options c.args.id in
     let known = g.D.Folder.known c.args.folder.now (shared_path (path_bytes c.args.path) c.args.id) in
     let works = g.D.Folder.works c.args.folder.now in
-    subst (λ (x : List ℕ). SaysOfFile x works known r.skip_hash r.object_hash r.timestamp options c.read_fault.result)
-    c.in_ok-shared.ensures (c.read_fault.ensures works known
-    (rw (c.as_path.ensures ∙ c.in_ok-shared.ensures) at c.in-Err.ensures.fault) r.skip_hash r.object_hash r.timestamp options)
+    subst (λ (x : List ℕ). SaysOfFile x works known r.skip_hash r.object_hash r.timestamp options c.of.result)
+    c.in_ok-shared.ensures (call_says (path_buf_bytes c.in_ok-shared.shared) c.in-Err.e c.of.result c.of.ensures works
+    known (rw (c.as_path.ensures ∙ c.in_ok-shared.ensures) at c.in-Err.ensures.fault) r.skip_hash r.object_hash
+    r.timestamp options)
 
 pub returns-clause-read : goal.returns-clause-read
 returns-clause-read g c =

@@ -1,5 +1,5 @@
--- What stands behind the entries of a file: its extensions and its trailer (gitformat-index, "The git index file has
--- the following format").
+-- The bytes after the entries of a file: its extensions and its trailer (gitformat-index, "The git index file has the
+-- following format").
 use Rattle.std.specs.Prelude.{◌≡◌, List, ℕ, drop, length, None, Ok}
 use Rattle.index_parts.specs.declared.hash.Kind.{Kind}
 use Rattle.index_entries.specs.declared.Version.{Version}
@@ -7,7 +7,7 @@ use Rattle.index_entries.specs.Entries.{AreEntries}
 use Rattle.index_entries.specs.Header.{count_of, header_len, header_of}
 use Rattle.index_entries.specs.Record.{Record}
 
--- bytes behind a header that stands, and behind as many entries as it counts
+-- bytes after a sound header and after as many entries as it counts
 pub record FollowEntries (kind : Kind) (bytes after : List ℕ) : Type 0 where
   pub version : Version
   pub header : header_of kind bytes ≡ Ok version
