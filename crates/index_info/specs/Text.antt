@@ -1,8 +1,8 @@
 -- A whole text of lines: all changes that it says, or the first line that is wrong (git-update-index, "USING
 -- --INDEX-INFO" and "-z").
-use Rattle.std.specs.Prelude.{◌≡◌, ℕ, ◌+◌, ◌-◌, ◌==◌, nat_eq, Bool, List, [], ◌∷◌, ◌++◌, length, take, map, Some, None}
-use Rattle.std.specs.Prelude.{Ok, Err, if◌then◌else◌}
-use Rattle.std.specs.List.{ends_with, slice_split}
+use Rattle.std.specs.Prelude.{◌≡◌, ℕ, ◌+◌, ◌==◌, Bool, List, [], ◌∷◌, ◌++◌, length, map, Some, None, Ok, Err}
+use Rattle.std.specs.Prelude.{if◌then◌else◌}
+use Rattle.std.specs.List.{slice_split}
 use Rattle.std.specs.Cow.{cow_slice_items}
 use Rattle.index_parts.specs.declared.hash.Kind.{Kind}
 use Rattle.index_edits.specs.declared.change.Change.{Change}
@@ -17,13 +17,15 @@ use Rattle.index_info.specs.declared.line.Line.{Line}
 abbrev pub end_of : Bool → ℕ
 end_of nul = if nul then 0 else 10
 
--- a text without the end of its last line
-abbrev pub body_of : ℕ → List ℕ → List ℕ
-body_of end text = if ends_with nat_eq text (end ∷ []) then take (length text - 1) text else text
+-- some parts without an empty one at the end
+abbrev pub without_empty_end : List (List ℕ) → List (List ℕ)
+without_empty_end [] = []
+without_empty_end ([] ∷ []) = []
+without_empty_end (part ∷ parts) = part ∷ without_empty_end parts
 
--- the lines of a text, of which the last needs no end; none of an empty one
+-- the lines of a text, of which the last needs no end
 abbrev pub lines_of : ℕ → List ℕ → List (List ℕ)
-lines_of end text = if length text == 0 then [] else slice_split (λ b. b == end) (body_of end text)
+lines_of end text = without_empty_end (slice_split (λ b. b == end) text)
 
 -- what each line says
 abbrev pub said : Bool → Kind → List ℕ → List (Read ChangeValue)

@@ -13,12 +13,13 @@ use index_entries::Pathless;
 use index_metadata::entry::{Flags, Mode, Stage, Stat};
 use index_parts::hash::{Kind, ObjectId};
 use index_parts::read;
+use memchr::memchr;
 
-/// Where the first byte of this value stands.
-fn place_of(text: &[u8], byte: u8) -> Option<usize>
+/// The place of the first byte of this value.
+pub(crate) fn place_of(text: &[u8], byte: u8) -> Option<usize>
     ensures { result ≡ position (λ b. b == byte) text.now }
 {
-    text.iter().position(|b| *b == byte)
+    memchr(byte, text)
 }
 
 /// What stands before the first byte of this value, and what behind it; None where there is none.

@@ -1,9 +1,11 @@
 //! A whole text as changes.
 
-ghost use Rattle.std.specs.Prelude.{◌≡◌, IfOk, IfErr, map};
-ghost use Rattle.index_info.specs.Text.{AreSaid, SaysOfText, body_of, change_value, end_of, line_value};
+ghost use Rattle.std.specs.Prelude.{◌≡◌, ◌==◌, IfOk, IfErr, map};
+ghost use Rattle.std.specs.List.{after_first, before_first};
+ghost use Rattle.index_info.specs.Text.{AreSaid, SaysOfText, change_value, end_of, line_value};
 
 use crate::error::Error;
+use crate::head::place_of;
 use crate::line::{Line, line_of};
 use index_edits::change::Change;
 use index_parts::hash::Kind;
@@ -16,11 +18,15 @@ fn end_of(nul: bool) -> u8
     if nul { 0 } else { b'\n' }
 }
 
-/// A text without the end of its last line.
-fn body_of(text: &[u8], end: u8) -> &[u8]
-    ensures { result.now ≡ body_of end text.now }
+/// The first line of a text without its end, and what follows that end: all and nothing if the text has no end.
+fn first_line(text: &[u8], end: u8) -> (&[u8], &[u8])
+    ensures line { result.0.now ≡ before_first (λ b. b == end) text.now }
+    ensures rest { result.1.now ≡ after_first (λ b. b == end) text.now }
 {
-    text.strip_suffix(&[end]).unwrap_or(text)
+    match place_of(text, end) {
+        Some(place) => (&text[..place], &text[place + 1..]),
+        None => (text, &[]),
+    }
 }
 
 /// What the lines of a text say, in their order. Each is one of
@@ -39,12 +45,11 @@ pub fn read(alloc: Global, nul: bool, kind: Kind, text: &[u8]) -> Result<Vec<Lin
         (λ lines. AreSaid nul kind text.now (map line_value lines.items)) }
     ensures fault { IfErr result (SaysOfText nul kind text.now) }
 {
-    let mut lines = Vec::new(alloc);
-    if text.is_empty() {
-        return Ok(lines);
-    }
     let end = end_of(nul);
-    for line in body_of(text, end).split(|b| *b == end) {
+    let mut lines = Vec::new(alloc);
+    let mut rest = text;
+    while !rest.is_empty() {
+        let (line, behind) = first_line(rest, end);
         match line_of(alloc, nul, kind, line)? {
             Ok(line) => lines.push(line)?,
             Err(fault) => {
@@ -52,6 +57,7 @@ pub fn read(alloc: Global, nul: bool, kind: Kind, text: &[u8]) -> Result<Vec<Lin
                 return Err(Error::Line { number, fault });
             }
         }
+        rest = behind;
     }
     Ok(lines)
 }
