@@ -51,7 +51,7 @@ pub fn check(
 
 /// An index that was read from all bytes of its file.
 #[derive(Drop)]
-pub(super) struct Decoded<'a> {
+pub(super) struct FileWithEnding<'a> {
     /// The index.
     pub file: File,
     /// The bytes after its last entry: the extensions and the trailer.
@@ -66,7 +66,7 @@ pub(super) fn decoded_knowing(
     known: Option<ObjectId>,
     path: PathBuf,
     reading: ReadOptions,
-) -> Result<Decoded<'_>, Error>
+) -> Result<FileWithEnding<'_>, Error>
     requires known { IfSome known (λ id. id ≡ digest_id reading.object_hash bytes.now) }
     ensures read { IfOk result (λ decoded. IsReadFrom reading bytes.now decoded.file) }
     ensures ending { IfOk result
@@ -92,7 +92,7 @@ pub(super) fn decoded_knowing(
         path,
         checksum: read.checksum,
     };
-    Ok(Decoded {
+    Ok(FileWithEnding {
         file,
         ending: read.ending,
     })
