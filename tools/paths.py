@@ -1,4 +1,4 @@
-"""Finds the paths and names in the documents that stand for nothing in the repository.
+"""Finds the paths and names in the documents that don't exist in the repository.
 
 A path in backquotes is looked at where it begins with a folder of the repository, with the name of a crate, or with
 src/, specs/ or proofs/, which are those of the crates that the same item of a list names, or of the README's own crate.
@@ -25,14 +25,17 @@ CHANGING = "docs/CHANGING.md"
 
 def documents():
     """The documents whose paths are looked at."""
-    return [TOP / "README.md", *sorted(TOP.glob("docs/*.md")), *sorted(TOP.glob("crates/*/README.md"))]
+    found = [*TOP.glob("*.md"), *TOP.glob("docs/*.md"), *TOP.glob("*/README.md"), *TOP.glob("crates/*/README.md")]
+    return [file for file in sorted(set(found)) if str(file.relative_to(TOP)) != "docs/MAP.md"]
 
 
 def is_there(folder, path):
     """Whether a path leads somewhere from a folder, whose steps in capitals, and dots in a row, are any name."""
     steps = [re.sub(r"^[A-Z]{2,}(?=$|\.)", "*", step) for step in path.rstrip("/").split("/")]
     found = "/".join(steps).replace("..", "*")
-    return any(any(folder.glob(found + ending)) for ending in ENDINGS)
+    # (a module of tests is named without the begin and the end of its file)
+    names = [found, re.sub(r"^tests/(?=[a-z]+$)", "tests/test_", found)]
+    return any(any(folder.glob(name + ending)) for name in names for ending in ENDINGS)
 
 
 @functools.lru_cache(maxsize=None)

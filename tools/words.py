@@ -1,45 +1,45 @@
-"""The words of index-tool: its help, manual page and completions are made of this table, and one in README.md."""
+"""The arguments of index-tool. Its help, manual page, completions and the table in docs/HOWTO.md are made from them."""
 import collections
 
 PROGRAM, VERSION = "index-tool", "0.55.0"
 ABOUT = "List, check, repair and rewrite git's index files"
 STATUS = "The status is 0 where all was done, 1 at a fault of a file or of the output, and 2 at wrong words."
 KINDS = ("sha1", "sha256")
-# A word that may stand behind a command's name, and what it does, for its help and for README.md. `letter` is that of its
+# An option of a command, and what it does, for its help and for docs/HOWTO.md. `letter` is that of its
 # short form, where it has one, and `name` that of its long form.
 Option = collections.namedtuple("Option", "name letter help does")
 NUL = Option("", "z", "End each line with a NUL byte in place of a newline", "ends each line with a NUL byte")
 QUOTE = Option("quote", "", "Quote paths with unusual bytes, as git does", "quotes paths with unusual bytes, as git does")
 NUL_LINES = Option(
     "", "z", "Lines of changes end with a NUL byte, and no path is quoted",
-    "reads lines that end with a NUL byte, in which no path is quoted",
+    "reads lines that end with a NUL byte, with paths that are not quoted",
 )
 MISSING = Option(
     "missing-ok", "", "Give each tree its id, also where no object store has it",
-    "each directory has them, also where `git write-tree` has still to make its tree",
+    "names all trees, including those that are not in the repository yet (run `git write-tree` afterwards)",
 )
 KEEP = Option(
     "keep", "", "Keep all extensions that fit, and version 4",
-    "keeps all extensions of FILE that fit, and version 4 where FILE is in that",
+    "writes every extension of FILE that fits its entries, and keeps version 4",
 )
 ALL = Option(
     "all", "", "Keep also what is well formed behind the first entry at fault",
-    "keeps also what is well formed behind the first entry at fault",
+    "writes also the well-formed entries after the first invalid one",
 )
-KEEP4 = KEEP._replace(does="keeps all extensions of FILE that fit")
+KEEP4 = KEEP._replace(does="writes every extension of FILE that fits its entries")
 STRICT = Option(
     "strict", "", "Check also that git takes each entry: its mode, path and id, and its place",
-    "looks also at mode, path and id of each entry, and for paths beside their directory",
+    "tests also the mode, path and id of each entry, and for paths inside another entry",
 )
 # Of each command: what lets words be left out.
 AUTO_KIND = Option(
     "auto", "a", "KIND may be left out: the repository or the file's own digest tells it",
-    "lets KIND be left out: the repository or the file's own digest tells it",
+    "KIND may be omitted: it is detected from the repository or from FILE's checksum",
 )
 AUTO_BOTH = Option(
     "auto", "a",
     "KIND may be left out (the repository or the file's own digest tells it), and FILE (that of the work tree)",
-    "lets KIND be left out, and FILE in a work tree",
+    "KIND may be omitted, and FILE in a work tree",
 )
 # A command: whether it writes, what it does, its line in the help, its options, whether one that writes takes OUT, and
 # what its help says below them.
@@ -52,39 +52,39 @@ COMMANDS = (
         "List the entries, as `git ls-files --stage` does", LINES,
     ),
     Command(
-        "check", False, "prints `ok` where entries are in order, cached tree holds together and digest fits",
+        "check", False, "prints `ok` if entries are in order, the cache tree is consistent and the checksum matches",
         "Check the order of the entries, the cached tree and the digest", (STRICT,), end=UNCHECKED,
     ),
     Command(
-        "check-trees", False, "prints `ok` where all that is so, and the cached tree fits the entries too",
+        "check-trees", False, "prints `ok` if, in addition, the cache tree matches the entries",
         "Check also that the cached tree fits the entries", (STRICT,), end=UNCHECKED,
     ),
     Command(
-        "map", False, "prints offset, length and name of each part of FILE, up to its first fault",
+        "map", False, "prints offset, length and name of each part of FILE, up to its first error",
         "Name each part of the file, up to its first fault", LINES,
     ),
-    Command("map-svg", False, "draws these parts to scale, as a picture in SVG", "Draw these parts as a picture (SVG)"),
-    Command("show", False, "prints all that FILE holds, but unknown or malformed extensions", "Show all that the file holds"),
+    Command("map-svg", False, "draws these parts to scale, as an SVG picture", "Draw these parts as a picture (SVG)"),
+    Command("show", False, "prints all of FILE except unknown or malformed extensions", "Show all that the file holds"),
     Command("show-json", False, "prints the same as one JSON object", "Show the same as JSON"),
     Command(
         "trees", False, "prints id, entry count and path of each directory, as `git write-tree` makes them",
         "List the trees that the entries make, as `git write-tree` would", LINES,
     ),
     Command(
-        "rewrite", True, "writes OUT anew, with `TREE`, `sdir` and an end marker: in version 2, or 3 where flags ask for it",
+        "rewrite", True, "writes OUT with `TREE`, `sdir` and an end marker, in version 2, or 3 if flags need it",
         "Write the index again", (KEEP,),
     ),
-    Command("rewrite4", True, "writes OUT so in version 4", "Write the index again in version 4", (KEEP4,)),
+    Command("rewrite4", True, "does the same in version 4", "Write the index again in version 4", (KEEP4,)),
     Command(
-        "rewrite-trees", True, "writes OUT with a cached tree made anew: counts and ids are those that FILE's has too",
+        "rewrite-trees", True, "writes OUT with a rebuilt cache tree that names only trees which FILE's already named",
         "Write the index with a cached tree made anew", (MISSING,),
     ),
     Command(
-        "update", True, "changes FILE by the lines of the standard input, as `git update-index --index-info` does",
+        "update", True, "changes FILE by the lines of standard input, as `git update-index --index-info` does",
         "Change the index, as `git update-index --index-info` does", (NUL_LINES,), False,
     ),
     Command(
-        "salvage", True, "writes to OUT the entries before the first at fault of a damaged FILE, and says how many",
+        "salvage", True, "writes to OUT the entries of a damaged FILE before the first invalid one, and a report",
         "Write what can be saved of a damaged index", (ALL,),
     ),
 )

@@ -1,4 +1,4 @@
-"""Runs what the README shows of the library: prints the id that an index has staged at a path, or none.
+"""Prints the id that an index has staged at a path, or none.
 
 Usage: sample.py INDEX PATH
 

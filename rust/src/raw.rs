@@ -1,5 +1,5 @@
-//! The calls of `libindex_c.a`, as `c/gix_index.h` declares them. Numbers and fields are compared by `tests/numbers`,
-//! the rest by `tests/linked` alone.
+//! The calls of `libindex_c.a`, as `c/gix_index.h` declares them. Numbers and fields are compared by `test_numbers`,
+//! the rest by `test_linked` alone.
 
 pub const DONE: u32 = 0;
 pub const MEMORY: u32 = 2;
