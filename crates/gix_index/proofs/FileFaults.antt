@@ -63,7 +63,7 @@ pub call_says : (path : List ℕ) (error : IoError) (e : Error) → IsOfCall pat
     → (works ≡ true → IsFaultOf known error) → (skip : Bool) (kind : Kind) (time : FileTime) (options : Options)
     → SaysOfFile path works known skip kind time options e
 call_says path error (errors.Io fault) h works known is skip kind time options =
-    (h.0, h.1.0, λ w. subst (IsFaultOf known) (sym h.1.1) (is w))
+    (h.0, h.1, λ w. subst (IsFaultOf known) (sym h.2) (is w))
 call_says path error (errors.Decode e) h works known is skip kind time options = absurd h
 call_says path error (errors.LinkExtension e) h works known is skip kind time options = absurd h
 call_says path error errors.Memory h works known is skip kind time options = tt

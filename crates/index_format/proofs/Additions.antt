@@ -80,12 +80,14 @@ module _ (kind : Kind) (limit : Option ℕ) (signature content : List ℕ) (old 
       (assumption (becomes old.had_offset_table, marks_stay old, no_link kind content))
 
   -- one with another signature changes nothing
-  pub adds_nothing : pointwise nat_eq signature (codes "link") ≡ false → pointwise nat_eq signature (codes "TREE") ≡ false
+  pub adds_nothing : pointwise nat_eq signature (codes "link") ≡ false
+      → pointwise nat_eq signature (codes "TREE") ≡ false
       → pointwise nat_eq signature (codes "REUC") ≡ false → pointwise nat_eq signature (codes "UNTR") ≡ false
       → pointwise nat_eq signature (codes "FSMN") ≡ false → pointwise nat_eq signature (codes "sdir") ≡ false
       → pointwise nat_eq signature (codes "EOIE") ≡ false → pointwise nat_eq signature (codes "IEOT") ≡ false
       → Adds kind limit signature content old old
-  adds_nothing not_link not_tree not_resolve_undo not_untracked not_fs_monitor not_sparse not_marker not_table = record {
+  adds_nothing not_link not_tree not_resolve_undo not_untracked not_fs_monitor not_sparse not_marker not_table =
+      record {
     tree = rw not_tree refl;
     link = rw not_link refl;
     whole_link = λ other. absurd cc;
