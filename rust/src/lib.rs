@@ -51,6 +51,12 @@ use std::ops::Range;
 use std::str::FromStr;
 use std::time::SystemTime;
 
+/// The version of this crate, which is that of the library.
+pub const VERSION: &str = env!("CARGO_PKG_VERSION");
+
+/// The version of the crate `gix-index` whose port the library is.
+pub const UPSTREAM_VERSION: &str = "0.55.0";
+
 /// Which hash function a repository names its objects by. Its text is `sha1` or `sha256`.
 #[derive(Clone, Copy, Debug, PartialEq, Eq, PartialOrd, Ord, Hash)]
 pub enum Kind {

@@ -1,4 +1,4 @@
-//! The calls of `libindex_c.a`, as `c/gix_index.h` declares them. Numbers and fields are compared by `tests/numbers`,
+//! The calls of `libgix_index.a`, as `c/gix_index.h` declares them. Numbers and fields are compared by `tests/numbers`,
 //! the rest by `tests/linked` alone.
 
 pub const DONE: u32 = 0;
