@@ -1,3 +1,4 @@
+/* SPDX-License-Identifier: MIT OR Apache-2.0 */
 /* The git index for C: tables of its entries, read from the bytes of an index file and written as such or as trees, and
  * changes of an index, as rows of such a table.
  *

@@ -1,3 +1,4 @@
+// SPDX-License-Identifier: MIT OR Apache-2.0
 //! Finds the static library, `libgix_index.a`. In this order:
 //!
 //! 1. `GIX_INDEX_LIB`, if it is set, names a folder that has it, such as `PREFIX/lib` after `c/install PREFIX`.

@@ -1,3 +1,4 @@
+# SPDX-License-Identifier: MIT OR Apache-2.0
 """The words of index-tool: its help, manual page and completions are made of this table, and one in README.md."""
 import collections
 

@@ -1,3 +1,4 @@
+# SPDX-License-Identifier: MIT OR Apache-2.0
 """The git index: its entries, read, searched, changed and written by functions that are proved to meet their contracts.
 
 `Index` is a copy of the entries of an index file, in memory of its own. This module calls the shared library that

@@ -1,3 +1,4 @@
+# SPDX-License-Identifier: MIT OR Apache-2.0
 """The shared library: the numbers, structures and calls of its headers, by their names there."""
 from __future__ import annotations
 

@@ -1,3 +1,4 @@
+// SPDX-License-Identifier: MIT OR Apache-2.0
 //! Runs what the README shows of the library: prints the id that an index has staged at a path, or none.
 //!
 //! Usage: sample INDEX PATH

@@ -1,3 +1,4 @@
+// SPDX-License-Identifier: MIT OR Apache-2.0
 //! The git index, read and written by a static library whose functions are proved to meet their contracts.
 //!
 //! [`Index`] is a copy of the entries of an index file, in memory of its own, to be searched, changed and written.

@@ -1,3 +1,4 @@
+// SPDX-License-Identifier: MIT OR Apache-2.0
 //! The calls of `libgix_index.a`, as `c/gix_index.h` declares them. Numbers and fields are compared by `tests/numbers`,
 //! the rest by `tests/linked` alone.
 
