@@ -1,7 +1,7 @@
 """Files that are made to be slow: what a file of so many bytes can hold most of, or claim most of.
 
 Each case is a rule that makes a file of a size, and what is run on it. `bench/run --worst` times the cases, and
-tests/worst counts the instructions that they take.
+test_worst counts the instructions that they take.
 """
 import hashlib
 import random

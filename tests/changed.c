@@ -1,4 +1,4 @@
-/* What tests/linked asks of changes of an index, in one process: changed WORD KIND FILE [SHARED].
+/* What test_called asks of changes of an index, in one process: changed WORD KIND FILE [SHARED].
  *
  * commit  makes those of standard input of the index at FILE, under its lock: lines as `git update-index
  *         --index-info` takes them, each `MODE SP ID SP STAGE TAB PATH`
@@ -7,30 +7,11 @@
  * once    makes them without a request for memory of its own, so that each is the library's
  *
  * A line on standard output for each thing that isn't so, or 'ok'. The status is 1 where a file can't be read here. */
-#define _POSIX_C_SOURCE 200809L
-#include "gix_index_file.h"
-
-#define MOST 65536
-#define FILL 0x5a
+#include "check.h"
 
 static uint8_t bytes[MOST], shared[MOST], image[MOST], room[MOST], paths[MOST];
 static gix_index_row rows[MOST / 16];
 static size_t bytes_len, shared_len, image_len, rows_len, paths_len;
-static uint32_t kind;
-static int faults;
-
-static void expect(bool holds, const char *what, size_t one, size_t two) {
-    if (holds) return;
-    faults++;
-    printf("%s (%zu, %zu)\n", what, one, two);
-}
-
-static bool is_filled(const void *at, size_t len) {
-    const uint8_t *byte = at;
-    for (size_t i = 0; i < len; i++)
-        if (byte[i] != FILL) return false;
-    return true;
-}
 
 static uint32_t update(const uint8_t *index, size_t len, uint32_t of, uint8_t *to, size_t to_len,
                        gix_index_written *told) {
@@ -195,18 +176,9 @@ static void once(void) {
     puts("memory");
 }
 
-static size_t read_here(const char *path, uint8_t *to) {
-    int file = open(path, O_RDONLY);
-    ssize_t len = read(file, to, MOST);
-    if (len < 0) exit(1);
-    close(file);
-    return len;
-}
-
 int main(int argc, char **argv) {
     if (argc < 4) return 1;
-    setvbuf(stdout, NULL, _IONBF, 0);
-    kind = strcmp(argv[2], "sha256") ? GIX_INDEX_SHA1 : GIX_INDEX_SHA256;
+    begin(argv[2]);
     if (strcmp(argv[1], "commit") != 0) bytes_len = read_here(argv[3], bytes);
     if (argc > 4) shared_len = read_here(argv[4], shared);
     if (!strcmp(argv[1], "commit")) commit(argv[3]);
@@ -221,6 +193,5 @@ int main(int argc, char **argv) {
         add(0, "", 0, "a");
         once();
     }
-    if (faults == 0) puts("ok");
-    return 0;
+    return end();
 }

@@ -1,20 +1,18 @@
-/* What tests/files asks in one process of the files that gix_index_file.h opens: files KIND FILE SPLIT. FILE and SPLIT
+/* What test_files asks in one process of the files that gix_index_file.h opens: files KIND FILE SPLIT. FILE and SPLIT
  * are sound indices of three entries, SPLIT with the shared one beside it; what is written stands at FILE.out.
  *
  * Each call leaves as many files open as were before it, whatever it answers. FILE and SPLIT are read and pass a check,
  * a file without bytes is refused, and a folder isn't taken for one; or memory is wanting, and then no entry is told
  * of, or a call of the system fails. A line on standard output for each
  * thing that isn't so, or 'ok'. */
-#define _POSIX_C_SOURCE 200809L
-#include "gix_index_file.h"
+#include "check.h"
 
 #define MOST_FILES 64
 #define ENTRIES 3
 
-static uint32_t kind;
 static uint8_t text[300];
 static char out[4096];
-static int files, faults;
+static int files;
 
 static int open_files(void) {
     int count = 0;
@@ -76,8 +74,7 @@ static void locks(const char *path, const gix_index_table *t) {
 
 int main(int argc, char **argv) {
     if (argc != 4 || snprintf(out, sizeof out, "%s.out", argv[2]) >= (int)sizeof out) return 1;
-    kind = strcmp(argv[1], "sha256") ? GIX_INDEX_SHA1 : GIX_INDEX_SHA256;
-    setvbuf(stdout, NULL, _IONBF, 0);
+    begin(argv[1]);
     files = open_files();
     reads(argv[2], GIX_INDEX_DONE);
     reads(argv[3], GIX_INDEX_DONE);
@@ -92,6 +89,5 @@ int main(int argc, char **argv) {
         locks(out, NULL);
     }
     gix_index_drop_table(&t);
-    if (faults == 0) puts("ok");
-    return 0;
+    return end();
 }

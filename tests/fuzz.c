@@ -1,4 +1,4 @@
-/* What tests/fuzz runs on bytes that clang's libFuzzer makes up: readings, checks, searches and writings of
+/* What tests/test_fuzz.py runs on bytes that clang's libFuzzer makes up: readings, checks, searches and writings of
  * c/gix_index.h. It aborts, with a line on standard error, where an answer isn't as the header says.
  *
  * An input is a byte of switches (below), four with the length of a shared index, lowest first, an index, and the

@@ -1,4 +1,4 @@
-/* What tests/linked asks of the trees of an index, in one process: given WORD KIND FILE.
+/* What test_called asks of the trees of an index, in one process: given WORD KIND FILE.
  *
  * list   prints those of the index at FILE, its link followed, in turn, as `git cat-file --batch` prints objects; or
  *        'fault N at N'
@@ -7,30 +7,11 @@
  *
  * A line on standard output for each thing that isn't so, or 'ok', which list leaves out. The status is 1 where a file
  * can't be read here. */
-#define _POSIX_C_SOURCE 200809L
-#include "gix_index_file.h"
-
-#define MOST 65536
-#define FILL 0x5a
+#include "check.h"
 
 static gix_index_table t;
 static gix_index_tree trees[64];
 static uint8_t bytes[MOST];
-static uint32_t kind;
-static int faults;
-
-static void expect(bool holds, const char *what, size_t one, size_t two) {
-    if (holds) return;
-    faults++;
-    printf("%s (%zu, %zu)\n", what, one, two);
-}
-
-static bool is_filled(const void *at, size_t len) {
-    const uint8_t *byte = at;
-    for (size_t i = 0; i < len; i++)
-        if (byte[i] != FILL) return false;
-    return true;
-}
 
 /* Whether what is told is this and no more. */
 static bool tells(const gix_index_given *told, gix_index_given wanted) {
@@ -207,12 +188,10 @@ static void once(void) {
 
 int main(int argc, char **argv) {
     if (argc != 4) return 1;
-    setvbuf(stdout, NULL, _IONBF, 0);
-    kind = strcmp(argv[2], "sha256") ? GIX_INDEX_SHA1 : GIX_INDEX_SHA256;
+    begin(argv[2]);
     if (!strcmp(argv[1], "once")) {
         once();
-        if (faults == 0) puts("ok");
-        return 0;
+        return end();
     }
     if (gix_index_read_file(argv[3], kind, NULL, 0, &t) != GIX_INDEX_DONE) return 1;
     if (!strcmp(argv[1], "list")) {
@@ -220,7 +199,7 @@ int main(int argc, char **argv) {
     } else {
         rooms();
         refused();
-        if (faults == 0) puts("ok");
+        end();
     }
     gix_index_drop_table(&t);
     return 0;

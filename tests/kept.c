@@ -1,4 +1,4 @@
-/* What tests/linked asks of what the library keeps of an index, and of two files that are read as one, in one process:
+/* What test_called asks of what the library keeps of an index, and of two files that are read as one, in one process:
  * kept WORD KIND WANTED FILE [SHARED]. WANTED is what is to be written of FILE, with its cached tree.
  *
  * over        writes the table of FILE over FILE into rooms of each size, from none up to one too large, and with rows
@@ -10,31 +10,13 @@
  * check-once  checks both so
  *
  * A line on standard output for each thing that isn't so, or 'ok'. The status is 1 where a file can't be read here. */
-#define _POSIX_C_SOURCE 200809L
-#include "gix_index_file.h"
-
-#define MOST 65536
-#define FILL 0x5a
+#include "check.h"
 
 static uint8_t wanted[MOST], bytes[MOST], shared[MOST], image[MOST], room[MOST], text[300], paths[MOST];
 static gix_index_row rows[MOST / 16];
 static size_t wanted_len, bytes_len, shared_len;
 static gix_index_summary said;
 static gix_index_form form = {.version = 2};
-static int faults;
-
-static void expect(bool holds, const char *what, size_t one, size_t two) {
-    if (holds) return;
-    faults++;
-    printf("%s (%zu, %zu)\n", what, one, two);
-}
-
-static bool is_filled(const void *at, size_t len) {
-    const uint8_t *byte = at;
-    for (size_t i = 0; i < len; i++)
-        if (byte[i] != FILL) return false;
-    return true;
-}
 
 static uint32_t read_bytes(const uint8_t *of, size_t len) {
     return gix_index_read(of, len, form.kind, false, rows, MOST / 16, paths, MOST, text, sizeof text, &said);
@@ -295,18 +277,10 @@ static void check_once(void) {
     if (status == GIX_INDEX_MEMORY) puts("memory");
 }
 
-static size_t read_here(const char *path, uint8_t *to) {
-    int file = open(path, O_RDONLY);
-    ssize_t len = read(file, to, MOST);
-    if (len < 0) exit(1);
-    close(file);
-    return len;
-}
-
 int main(int argc, char **argv) {
     if (argc < 5) return 1;
-    setvbuf(stdout, NULL, _IONBF, 0);
-    form.kind = strcmp(argv[2], "sha256") ? GIX_INDEX_SHA1 : GIX_INDEX_SHA256;
+    begin(argv[2]);
+    form.kind = kind;
     wanted_len = read_here(argv[3], wanted);
     bytes_len = read_here(argv[4], bytes);
     if (argc > 5) shared_len = read_here(argv[5], shared);
@@ -315,6 +289,5 @@ int main(int argc, char **argv) {
     if (!strcmp(argv[1], "over-once")) over_once();
     if (!strcmp(argv[1], "split-once")) split_once();
     if (!strcmp(argv[1], "check-once")) check_once();
-    if (faults == 0) puts("ok");
-    return 0;
+    return end();
 }

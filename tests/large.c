@@ -1,21 +1,12 @@
-/* What tests/linked asks of the library of a long file, in memory of just the sizes that are told: large KIND FILE.
+/* What test_called asks of the library of a long file, in memory of just the sizes that are told: large KIND FILE.
  *
  * The file is read into such a table, and with a row or a byte less into none; its rows are found by their paths; it is
  * written in each version into such a room, and with a byte less into none; what is written is read again, and passes a
  * check; and the table that gix_index_file.h reads by the path, and by that of what it wrote at FILE.out, is the same.
  * A line on standard output for each thing that isn't so, or 'ok'. The status is 1 where there is no memory here. */
-#define _POSIX_C_SOURCE 200809L
-#include "gix_index_file.h"
+#include "check.h"
 
-static uint32_t kind;
 static uint8_t text[200];
-static int faults;
-
-static void expect(bool holds, const char *what, size_t number) {
-    if (holds) return;
-    faults++;
-    printf("%s: %zu\n", what, number);
-}
 
 static void *room_of(size_t len) {
     void *room = malloc(len ? len : 1);
@@ -42,7 +33,7 @@ static bool has_same(const gix_index_table *t, const gix_index_table *whole) {
 static void same(uint8_t *bytes, size_t len, const gix_index_table *whole, const char *what) {
     gix_index_table t = {.bytes = bytes, .bytes_len = len};
     uint32_t status = read_into(&t, whole->said.entries, whole->said.path_bytes, &t.said);
-    expect(status == GIX_INDEX_DONE && has_same(&t, whole), what, len);
+    expect(status == GIX_INDEX_DONE && has_same(&t, whole), what, len, 0);
     free(t.rows);
     free(t.paths);
 }
@@ -50,8 +41,8 @@ static void same(uint8_t *bytes, size_t len, const gix_index_table *whole, const
 static void too_small(const gix_index_table *whole, size_t rows_len, size_t paths_len) {
     gix_index_table t = {.bytes = whole->bytes, .bytes_len = whole->bytes_len};
     uint32_t status = read_into(&t, rows_len, paths_len, &t.said);
-    expect(status == GIX_INDEX_NO_ROOM, "a table that is too small", rows_len);
-    expect(!memcmp(&t.said, &whole->said, sizeof t.said), "other sizes of one that is too small", t.said.entries);
+    expect(status == GIX_INDEX_NO_ROOM, "a table that is too small", rows_len, 0);
+    expect(!memcmp(&t.said, &whole->said, sizeof t.said), "other sizes of one that is too small", t.said.entries, 0);
     free(t.rows);
     free(t.paths);
 }
@@ -63,9 +54,9 @@ static void searched(const gix_index_table *t) {
         const uint8_t *path = t->paths + row->path_start;
         size_t place = gix_index_find(t->rows, t->said.entries, t->paths, t->said.path_bytes, path, row->path_len,
                                       row->stage);
-        expect(place == i, "another place", place);
+        expect(place == i, "another place", place, 0);
         gix_index_find_prefix(t->rows, t->said.entries, t->paths, t->said.path_bytes, path, row->path_len, &told);
-        expect(told.start == i && told.end == i + 1, "another range", told.start);
+        expect(told.start == i && told.end == i + 1, "another range", told.start, 0);
     }
 }
 
@@ -80,16 +71,17 @@ static void written(const gix_index_table *whole, uint32_t version) {
     gix_index_summary said;
     uint8_t no_byte;
     uint32_t status = write_into(whole, version, &no_byte, 0, &told);
-    expect(status == GIX_INDEX_NO_ROOM, "a room that is none", version);
+    expect(status == GIX_INDEX_NO_ROOM, "a room that is none", version, 0);
     size_t len = told.bytes;
     uint8_t *small = room_of(len - 1), *room = room_of(len);
     status = write_into(whole, version, small, len - 1, &told);
-    expect(status == GIX_INDEX_NO_ROOM && told.bytes == len, "a room that is too small", told.bytes);
+    expect(status == GIX_INDEX_NO_ROOM && told.bytes == len, "a room that is too small", told.bytes, 0);
     status = write_into(whole, version, room, len, &told);
-    expect(status == GIX_INDEX_DONE && told.bytes == len, "a room of the size", told.bytes);
+    expect(status == GIX_INDEX_DONE && told.bytes == len, "a room of the size", told.bytes, 0);
     same(room, len, whole, "another table is read back");
     status = gix_index_check(room, len, kind, false, text, sizeof text, &said);
-    expect(status == GIX_INDEX_DONE && said.entries == whole->said.entries, "what is written fails a check", version);
+    bool is_sound = status == GIX_INDEX_DONE && said.entries == whole->said.entries;
+    expect(is_sound, "what is written fails a check", version, 0);
     free(small);
     free(room);
 }
@@ -97,25 +89,25 @@ static void written(const gix_index_table *whole, uint32_t version) {
 static void by_path(const gix_index_table *whole, const char *path, const char *what) {
     gix_index_table t;
     uint32_t status = gix_index_read_file(path, kind, text, sizeof text, &t);
-    expect(status == GIX_INDEX_DONE && has_same(&t, whole), what, status);
+    expect(status == GIX_INDEX_DONE && has_same(&t, whole), what, status, 0);
     gix_index_drop_table(&t);
 }
 
 int main(int argc, char **argv) {
     gix_index_table whole = {0};
     if (argc != 3) return 1;
-    kind = strcmp(argv[1], "sha256") ? GIX_INDEX_SHA1 : GIX_INDEX_SHA256;
+    begin(argv[1]);
     whole.bytes = gix_index_bytes_of(argv[2], &whole.bytes_len);
     char *out = room_of(strlen(argv[2]) + sizeof ".out");
     if (!whole.bytes) return 1;
     strcat(strcpy(out, argv[2]), ".out");
     uint32_t status = read_into(&whole, 0, 0, &whole.said);
-    expect(status == GIX_INDEX_NO_ROOM, "a table without room", status);
+    expect(status == GIX_INDEX_NO_ROOM, "a table without room", status, 0);
     free(whole.rows);
     free(whole.paths);
     gix_index_summary told = whole.said;
     status = read_into(&whole, told.entries, told.path_bytes, &whole.said);
-    expect(status == GIX_INDEX_DONE && !memcmp(&told, &whole.said, sizeof told), "a table of the sizes", status);
+    expect(status == GIX_INDEX_DONE && !memcmp(&told, &whole.said, sizeof told), "a table of the sizes", status, 0);
     too_small(&whole, told.entries - 1, told.path_bytes);
     too_small(&whole, told.entries, told.path_bytes - 1);
     searched(&whole);
@@ -123,11 +115,10 @@ int main(int argc, char **argv) {
     gix_index_form form = {.kind = kind, .version = 4};
     gix_index_written how;
     status = gix_index_write_file(out, whole.rows, told.entries, whole.paths, told.path_bytes, &form, &how);
-    expect(status == GIX_INDEX_DONE, "a file isn't written", status);
+    expect(status == GIX_INDEX_DONE, "a file isn't written", status, 0);
     by_path(&whole, argv[2], "another table is read by the path");
     by_path(&whole, out, "another table is read of what was written");
     gix_index_drop_table(&whole);
     free(out);
-    if (faults == 0) puts("ok");
-    return 0;
+    return end();
 }

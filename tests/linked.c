@@ -1,4 +1,4 @@
-/* What tests/linked asks of reading, checking and searching, in one process: linked WORD KIND FILE.
+/* What test_called asks of reading, checking and searching, in one process: linked WORD KIND FILE.
  *
  * sizes     reads the file into tables of each size, from none up to one too large
  * numbers   reads and checks it as of kinds that are none, and with a wrong digest: the summary is written whole
@@ -200,6 +200,5 @@ int main(int argc, char **argv) {
     if (!strcmp(argv[1], "once")) once(&read_once);
     if (!strcmp(argv[1], "sound")) check(GIX_INDEX_DONE);
     if (!strcmp(argv[1], "fallen")) check(GIX_INDEX_REFUSED);
-    if (faults == 0) puts("ok");
-    return 0;
+    return end();
 }

@@ -2,29 +2,10 @@
 #ifndef LINKED_H
 #define LINKED_H
 
-#define _POSIX_C_SOURCE 200809L
-#include "gix_index_file.h"
-
-#define MOST 65536
-#define FILL 0x5a
+#include "check.h"
 
 static uint8_t bytes[MOST];
 static size_t bytes_len;
-static uint32_t kind;
-static int faults;
-
-static inline void expect(bool holds, const char *what, size_t rows, size_t paths) {
-    if (holds) return;
-    faults++;
-    printf("%s, of %zu rows and %zu bytes for paths\n", what, rows, paths);
-}
-
-static inline bool is_filled(const void *at, size_t len) {
-    const uint8_t *byte = at;
-    for (size_t i = 0; i < len; i++)
-        if (byte[i] != FILL) return false;
-    return true;
-}
 
 /* A table of its own memory, filled, of just so many rows and bytes. */
 typedef struct {
@@ -98,13 +79,9 @@ static inline bool once(table *t) {
 
 /* Takes the kind and the bytes of the file behind the program's word, and says whether they are there. */
 static inline bool load(int argc, char **argv) {
-    int file = argc == 4 ? open(argv[3], O_RDONLY) : -1;
-    ssize_t len = read(file, bytes, MOST);
-    if (len < 0) return false;
-    close(file);
-    bytes_len = len;
-    setvbuf(stdout, NULL, _IONBF, 0);
-    kind = strcmp(argv[2], "sha256") ? GIX_INDEX_SHA1 : GIX_INDEX_SHA256;
+    if (argc != 4) return false;
+    begin(argv[2]);
+    bytes_len = read_here(argv[3], bytes);
     return true;
 }
 

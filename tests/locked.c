@@ -1,23 +1,14 @@
-/* What tests/linked asks of locks and of reading files, in one process: locked KIND FILE. FILE is an index, and what is
+/* What test_called asks of locks and of reading files, in one process: locked KIND FILE. FILE is an index, and what is
  * made stands beside it, in the folder FILE.d, which is gone at the end.
  *
  * A line on standard output for each thing that isn't so, or 'ok'. The status is 1 where a file can't be made here. */
-#define _POSIX_C_SOURCE 200809L
-#include "gix_index_file.h"
+#include "check.h"
 
 /* A time long ago, in whose seconds and nanoseconds no file is made here. */
 static const struct timespec past = {1600000000, 123456789}, earlier = {1500000000, 5}, nil = {0, 7};
 
-static uint32_t kind;
 static uint8_t text[300];
 static gix_index_table t;
-static int faults;
-
-static void expect(bool holds, const char *what, size_t one, size_t two) {
-    if (holds) return;
-    faults++;
-    printf("%s (%zu, %zu)\n", what, one, two);
-}
 
 static void need(bool holds, const char *what) {
     if (holds) return;
@@ -197,10 +188,9 @@ static void tidy(void) {
 int main(int argc, char **argv) {
     char folder[4096];
     if (argc != 3 || snprintf(folder, sizeof folder, "%s.d", argv[2]) >= (int)sizeof folder) return 1;
-    kind = strcmp(argv[1], "sha256") ? GIX_INDEX_SHA1 : GIX_INDEX_SHA256;
+    begin(argv[1]);
     need(gix_index_read_file(argv[2], kind, text, sizeof text, &t) == GIX_INDEX_DONE, argv[2]);
     need(mkdir(folder, 0700) == 0 && chdir(folder) == 0, folder);
-    setvbuf(stdout, NULL, _IONBF, 0);
     commits();
     ends();
     links();
@@ -208,6 +198,5 @@ int main(int argc, char **argv) {
     tidy();
     gix_index_drop_table(&t);
     expect(rmdir(folder) == 0, "a file is left", (size_t)errno, 0);
-    if (faults == 0) puts("ok");
-    return 0;
+    return end();
 }

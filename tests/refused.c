@@ -1,5 +1,5 @@
 /* Put before the C library (LD_PRELOAD): counts a program's requests for memory and its calls of the system, and
- * refuses one of them, or one and all behind it. tests/refused says what for.
+ * refuses one of them, or one and all behind it. tests/failing.py begins programs with it.
  *
  * REFUSED_KIND   request  one of malloc, realloc, aligned_alloc, posix_memalign and mmap
  *                call     one that opens, looks at, reads, writes, moves in, syncs, renames or removes a file
@@ -14,18 +14,12 @@
  * REFUSED_COUNTS a file for how many there were of the four kinds, how many requests were for a block that there was
  *                none of before, as a vector's first one is, and how many bytes the largest request was for
  */
-#define _GNU_SOURCE
-#include <dlfcn.h>
-#include <errno.h>
-#include <fcntl.h>
+#include "preload.h"
+
 #include <stdarg.h>
 #include <stdio.h>
-#include <stdlib.h>
-#include <string.h>
 #include <sys/mman.h>
-#include <sys/stat.h>
 #include <sys/syscall.h>
-#include <unistd.h>
 
 enum kind { REQUEST, CALL, MOVE, WAIT, KINDS };
 static const char *const names[KINDS] = {"request", "call", "move", "wait"};
@@ -35,19 +29,15 @@ static size_t largest;
 static enum kind refused = KINDS;
 static int goes_on, counts_also, is_begun, error_number = EIO;
 
-/* The C library's function of this name. */
-#define NEXT(name) ((__typeof__(&name))dlsym(RTLD_NEXT, #name))
-
 __attribute__((constructor)) static void begin(void) {
-  const char *kind = getenv("REFUSED_KIND"), *number = getenv("REFUSED_NTH"), *error = getenv("REFUSED_ERROR");
-  const char *wanted = getenv("REFUSED_SIZE");
+  const char *kind = getenv("REFUSED_KIND");
   for (enum kind at = 0; kind && at < KINDS; at++)
     if (!strcmp(kind, names[at])) refused = at;
-  if (number) nth = atol(number);
-  if (wanted) size = atol(wanted);
-  if (error) error_number = atoi(error);
-  goes_on = getenv("REFUSED_ON") != NULL;
-  counts_also = getenv("REFUSED_ALSO") != NULL;
+  nth = number_of("REFUSED_NTH", 0);
+  size = number_of("REFUSED_SIZE", -1);
+  error_number = number_of("REFUSED_ERROR", EIO);
+  goes_on = is_set("REFUSED_ON");
+  counts_also = is_set("REFUSED_ALSO");
   is_begun = 1;
 }
 

@@ -4,21 +4,11 @@
  *               was written to it since then, else `unsynced`
  * SYNCED_FAILS  the name of a call, `fsync` or `fchmod`, that fails with EIO each time
  */
-#define _GNU_SOURCE
-#include <dlfcn.h>
-#include <errno.h>
-#include <fcntl.h>
-#include <stdlib.h>
-#include <string.h>
-#include <sys/stat.h>
-#include <unistd.h>
+#include "preload.h"
 
 /* The files that are on the disk as they are, by their inodes. */
 enum { MOST = 64 };
 static ino_t synced[MOST];
-
-/* The C library's function of this name. */
-#define NEXT(name) ((__typeof__(&name))dlsym(RTLD_NEXT, #name))
 
 static int fails(const char *name) {
   const char *wanted = getenv("SYNCED_FAILS");

@@ -1,4 +1,4 @@
-/* What tests/linked asks of writing, in one process: written WORD KIND FILE.
+/* What test_called asks of writing, in one process: written WORD KIND FILE.
  *
  * threads   reads the file and writes it in four threads at once, many times
  * rooms     writes its table in each way into rooms of each size, from none up to one too large, and reads it again
@@ -302,6 +302,5 @@ int main(int argc, char **argv) {
     if (!strcmp(argv[1], "unfit")) unfit();
     if (!strcmp(argv[1], "files")) files(argv[3]);
     if (!strcmp(argv[1], "written")) written();
-    if (faults == 0) puts("ok");
-    return 0;
+    return end();
 }

@@ -1,6 +1,6 @@
 // SPDX-License-Identifier: MIT OR Apache-2.0
-//! The calls of `libgix_index.a`, as `c/gix_index.h` declares them. Numbers and fields are compared by `tests/numbers`,
-//! the rest by `tests/linked` alone.
+//! The calls of `libgix_index.a`, as `c/gix_index.h` declares them. Numbers and fields are compared by `test_numbers`,
+//! the rest by `test_linked` alone.
 
 pub const DONE: u32 = 0;
 pub const MEMORY: u32 = 2;

@@ -2,7 +2,7 @@
 
 from dataclasses import dataclass
 
-from bytes import Unreadable, number, numbers
+from tests.model.bytes import Unreadable, number, numbers
 
 # What stands in the place of a position where the words break off.
 MALFORMED = "malformed"
@@ -39,7 +39,7 @@ class Bitmap:
             yield place
 
     def is_within(self, count):
-        """Whether no more bits than this are declared, each bit that is 1 is among so many, and no words are missing."""
+        """Whether no more bits than this are declared, each that is 1 is among so many, and no words are missing."""
         return self.bits <= count and all(run != MALFORMED and run.stop <= count for run in self.runs())
 
     def unbounded_positions(self):

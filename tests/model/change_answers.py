@@ -2,20 +2,11 @@
 
 from pathlib import Path
 
-import edits
-import extensions
-import faults
-import lookups
-import made_trees
-import merging
-import objects
-import show
-import state
-import trees
-import words
-import worktree
-import writing
-from bytes import digest, kind_of_id
+from tests.model import (
+    edits, extensions, faults, lookups, made_trees, merging, objects, show, state, trees, words, worktree,
+    writing
+)
+from tests.model.bytes import digest, kind_of_id
 
 # Which choice of extensions writes a cached tree and an end marker; `kept` keeps all that fits.
 CHOICES = {

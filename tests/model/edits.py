@@ -1,6 +1,6 @@
 """Edits of a state: sorting and taking out. The storage of the paths stays as it is."""
 
-from entries import EXECUTABLE, REMOVE, UP_TO_DATE
+from tests.model.entries import EXECUTABLE, REMOVE, UP_TO_DATE
 
 
 def sort(state):

@@ -3,7 +3,7 @@
 from dataclasses import dataclass, field
 from typing import NamedTuple
 
-from bytes import ID_LENGTH, Unreadable, number, numbers, offset_number, take, up_to
+from tests.model.bytes import ID_LENGTH, Unreadable, number, numbers, offset_number, take, up_to
 
 # Flags as they stand in memory: the first word of a file below, what a program marks for itself above, and the second
 # word of a file in the highest bits.

@@ -6,8 +6,8 @@ A reader of an optional extension raises `Unreadable` where the content has no v
 from dataclasses import dataclass
 from typing import Optional
 
-import bitmaps
-from bytes import ID_LENGTH, Unreadable, digest, number, numbers, take, up_to
+from tests.model import bitmaps
+from tests.model.bytes import ID_LENGTH, Unreadable, digest, number, numbers, take, up_to
 
 TREE = b"TREE"
 LINK = b"link"

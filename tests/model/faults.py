@@ -1,6 +1,6 @@
 """Refusals as answers spell them, by DIALECT.md."""
 
-from show import text
+from tests.model.show import text
 
 
 def of_link(fault):

@@ -2,9 +2,8 @@
 
 from pathlib import Path
 
-import merging
-import state
-from bytes import null_id
+from tests.model import merging, state
+from tests.model.bytes import null_id
 
 
 class Unread(Exception):

@@ -3,14 +3,15 @@
 A line `= NAME` in a file of rows/ stands for the rows that `ROWS[NAME]` makes.
 """
 
-import made_trees
-import show
-from bitmaps import Bitmap
-from bytes import ID_LENGTH, offset_number_bytes
-from draws import Draws
-from entries import DIRECTORY, EXECUTABLE, FILE, INTENT_TO_ADD, REMOVE, SUBMODULE, SYMLINK, Entry, flags_of_stage
-from lookups import is_ordered_by_path, is_strictly_ordered
-from trees import DEEPEST
+from tests.model import made_trees, show
+from tests.model.bitmaps import Bitmap
+from tests.model.bytes import ID_LENGTH, offset_number_bytes
+from tests.model.draws import Draws
+from tests.model.entries import (
+    DIRECTORY, EXECUTABLE, FILE, INTENT_TO_ADD, REMOVE, SUBMODULE, SYMLINK, Entry, flags_of_stage
+)
+from tests.model.lookups import is_ordered_by_path, is_strictly_ordered
+from tests.model.trees import DEEPEST
 
 # Names that clash in two cases, and names that stand before and behind a slash.
 NAMES = "A Ab B D DIR Dir F a a-b a.b a0 ab b d dir f x".split()

@@ -1,18 +1,11 @@
 """What `test_rows` has to answer: indexes, extensions, numbers and values of an entry. Each call answers lines."""
 
-import bitmaps
-import entries
-import extensions
-import faults
-import files
-import merging
-import show
-import state
-import trees
-import untracked_cache
-import words
-import writing
-from bytes import Unreadable, digest, kind_of_id, null_id, number, offset_number, offset_number_bytes, up_to
+from tests.model import (
+    bitmaps, entries, extensions, faults, files, merging, show, state, trees, untracked_cache, words, writing
+)
+from tests.model.bytes import (
+    Unreadable, digest, kind_of_id, null_id, number, offset_number, offset_number_bytes, up_to
+)
 
 STAGE_NAMES = ("unconflicted", "base", "ours", "theirs")
 

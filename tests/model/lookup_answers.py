@@ -1,9 +1,7 @@
 """What `test_lookup_rows` has to answer: each lookup for some paths over a list of entries, and single searches."""
 
-import lookups
-import show
-import words
-from index_answers import with_state
+from tests.model import lookups, show, words
+from tests.model.index_answers import with_state
 
 
 def answer(row, folder):

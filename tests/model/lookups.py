@@ -1,6 +1,6 @@
 """Lookups over a list of entries, each by looking at every entry in turn. Answers are places in the list."""
 
-from entries import DIRECTORY, SUBMODULE
+from tests.model.entries import DIRECTORY, SUBMODULE
 
 STAGES = (0, 1, 2, 3)
 # The stages that an entry of a path is looked for at.

@@ -1,8 +1,8 @@
 """The trees of an index, as git makes them of its entries (git-write-tree, gitformat-index "Cache tree")."""
 
-import trees
-from bytes import digest, kind_of_id, null_id
-from entries import DIRECTORY, EXECUTABLE, FILE, INTENT_TO_ADD, SUBMODULE, SYMLINK
+from tests.model import trees
+from tests.model.bytes import digest, kind_of_id, null_id
+from tests.model.entries import DIRECTORY, EXECUTABLE, FILE, INTENT_TO_ADD, SUBMODULE, SYMLINK
 
 MODES = (FILE, EXECUTABLE, SYMLINK, SUBMODULE, DIRECTORY)
 
@@ -144,7 +144,8 @@ def first_wrong(tree, given, unmerged=()):
     lies below it.
     """
     known = {names: node for names, node in named(given) if node.count is not None}
-    disputed = {tuple(parts[:level]) for parts in (it.path.split(b"/") for it in unmerged) for level in range(len(parts))}
+    steps = [it.path.split(b"/") for it in unmerged]
+    disputed = {tuple(parts[:level]) for parts in steps for level in range(len(parts))}
     for names, node in named(tree):
         same = None if names in disputed else known.get(names)
         if node.count is not None and (same is None or (node.id, node.count) != (same.id, same.count)):

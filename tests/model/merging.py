@@ -2,8 +2,8 @@
 
 from dataclasses import replace
 
-from bitmaps import MALFORMED
-from entries import REMOVE
+from tests.model.bitmaps import MALFORMED
+from tests.model.entries import REMOVE
 
 IN_SHARED = " bitmap length exceeds shared index length - more entries in bitmap than found in shared index"
 IN_SPLIT = "replace bitmap length exceeds split index length - more entries in bitmap than found in split index"

@@ -3,8 +3,8 @@
 from dataclasses import dataclass
 from typing import Optional
 
-from bytes import ID_LENGTH, Unreadable, take, up_to
-from entries import EXECUTABLE, FILE, SUBMODULE, SYMLINK, Entry
+from tests.model.bytes import ID_LENGTH, Unreadable, take, up_to
+from tests.model.entries import EXECUTABLE, FILE, SUBMODULE, SYMLINK, Entry
 
 # Bits of a mode: what an entry is, and what a tree, a link and a file have there.
 TYPE, TREE, LINK, PLAIN = 0o170000, 0o040000, 0o120000, 0o100000

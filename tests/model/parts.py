@@ -4,12 +4,8 @@ from dataclasses import dataclass, field
 from types import SimpleNamespace
 from typing import Optional
 
-import entries
-import extensions
-import files
-import merging
-import state
-from bytes import ID_LENGTH, Unreadable, digest, null_id
+from tests.model import entries, extensions, files, merging, state
+from tests.model.bytes import ID_LENGTH, Unreadable, digest, null_id
 
 
 # The modes of entries, but that of a whole directory.
@@ -88,7 +84,7 @@ class Parts:
         return int.from_bytes(self.data[4:8], "big")
 
     def saved(self, kind, folder, keeps_all=False):
-        """The entries that are kept, with those of the shared index that stands in the folder; how many are told, up to the
+        """The entries that are kept, with those of the shared index that is in the folder; how many are told, up to the
         words of a fault; and what became of the shared index. Kept are those before the first at fault, or all that git
         works with, in order, of each path and stage the first."""
         found, told = self.completed(kind, folder)

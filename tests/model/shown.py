@@ -1,7 +1,6 @@
 """All that an index holds as lines for people, of the model's state."""
 
-import entries
-import parts
+from tests.model import entries, parts
 
 MODE_WORDS = {
     entries.DIRECTORY: "directory",

@@ -3,11 +3,8 @@
 from dataclasses import dataclass, field
 from typing import Optional
 
-import entries
-import extensions
-import trees
-import untracked_cache
-from bytes import ID_LENGTH, Unreadable, digest, null_id
+from tests.model import entries, extensions, trees, untracked_cache
+from tests.model.bytes import ID_LENGTH, Unreadable, digest, null_id
 
 HEADER_LENGTH = 12
 SIGNATURE = b"DIRC"

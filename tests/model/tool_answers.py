@@ -4,17 +4,9 @@ import json
 from dataclasses import dataclass
 from typing import Optional
 
-import document
-import lookups
-import made_trees
-import merging
-import parts
-import shown
-import state
-import trees
-import writing
-from files import Unread
-from files import index_at as read_at
+from tests.model import document, lookups, made_trees, merging, parts, shown, state, trees, writing
+from tests.model.files import Unread
+from tests.model.files import index_at as read_at
 
 # The file that commands which write one write.
 OUT = "out"

@@ -3,8 +3,8 @@
 from dataclasses import dataclass, field
 from typing import Optional
 
-from bytes import ID_LENGTH, Unreadable, kind_of_id, null_id, take, up_to
-from objects import tree_entries
+from tests.model.bytes import ID_LENGTH, Unreadable, kind_of_id, null_id, take, up_to
+from tests.model.objects import tree_entries
 
 # Levels below the root that can be read.
 DEEPEST = 2048

@@ -3,9 +3,11 @@
 from dataclasses import dataclass, field
 from typing import Optional
 
-import bitmaps
-from bytes import ID_LENGTH, Unreadable, null_id, number, numbers, offset_number, offset_number_bytes, take, up_to
-from entries import Stat
+from tests.model import bitmaps
+from tests.model.bytes import (
+    ID_LENGTH, Unreadable, null_id, number, numbers, offset_number, offset_number_bytes, take, up_to
+)
+from tests.model.entries import Stat
 
 # Levels below the first directory that can be read.
 DEEPEST = 2048

@@ -3,12 +3,12 @@
 import re
 from pathlib import Path
 
-import state
-from bytes import ID_LENGTH, digest
-from entries import Entry, Stat, flags_of_stage
-from objects import Check, Found, Store
-from state import State
-from trees import Tree
+from tests.model import state
+from tests.model.bytes import ID_LENGTH, digest
+from tests.model.entries import Entry, Stat, flags_of_stage
+from tests.model.objects import Check, Found, Store
+from tests.model.state import State
+from tests.model.trees import Tree
 
 # What stands in a field that a row leaves out.
 DEFAULT_MODE = "100644"

@@ -1,6 +1,6 @@
 """Entries beside the files of a working tree: modes, stats and times."""
 
-from entries import DIRECTORY, EXECUTABLE, FILE, SUBMODULE, SYMLINK, Stat
+from tests.model.entries import DIRECTORY, EXECUTABLE, FILE, SUBMODULE, SYMLINK, Stat
 
 # What becomes of a mode where the bit for execution alone differs.
 BIT = {FILE: EXECUTABLE, EXECUTABLE: FILE}

@@ -2,12 +2,10 @@
 
 from dataclasses import dataclass
 
-import extensions
-import trees
-import untracked_cache
-from bytes import digest, null_id, offset_number_bytes
-from entries import EXTENDED, LENGTH_BITS, first_word, second_word
-from state import SIGNATURE
+from tests.model import extensions, trees, untracked_cache
+from tests.model.bytes import digest, null_id, offset_number_bytes
+from tests.model.entries import EXTENDED, LENGTH_BITS, first_word, second_word
+from tests.model.state import SIGNATURE
 
 
 class NulInPath(Exception):
