@@ -1,7 +1,8 @@
+/* SPDX-License-Identifier: MIT OR Apache-2.0 */
 /* The git index for C: tables of its entries, read from the bytes of an index file and written as such or as trees, and
  * changes of an index, as rows of such a table.
  *
- * Link libindex_c.a, and behind it liblibc_c.a (malloc, realloc and free), as gix_index.pc says.
+ * Link libgix_index.so or libgix_index.a, as gix_index.pc says. Both use malloc, realloc and free of the C library.
  *
  * Memory. What a call reads and writes is the caller's. A pointer goes with a length, counts elements of its type,
  * and has to be valid for all of them during the call, and aligned as its type is. With a length of 0 it may be NULL,
@@ -27,13 +28,14 @@
 extern "C" {
 #endif
 
-/* ---- The version of the library, which is that of the crate gix-index that it ports */
+/* ---- The version of the library, and that of the crate gix-index that it ports */
 
-#define GIX_INDEX_VERSION "0.55.0"
-#define GIX_INDEX_VERSION_MAJOR 0
-#define GIX_INDEX_VERSION_MINOR 55
+#define GIX_INDEX_VERSION "1.0.0"
+#define GIX_INDEX_VERSION_MAJOR 1
+#define GIX_INDEX_VERSION_MINOR 0
 #define GIX_INDEX_VERSION_PATCH 0
-#define GIX_INDEX_VERSION_NUMBER 0x003700u /* the three, a byte each */
+#define GIX_INDEX_VERSION_NUMBER 0x010000u /* the three, a byte each */
+#define GIX_INDEX_UPSTREAM_VERSION "0.55.0"
 
 /* ---- Statuses: what a call answers */
 
@@ -207,8 +209,8 @@ typedef struct {
 
 /* ---- Calls */
 
-/* The version of the library that is linked, as GIX_INDEX_VERSION_NUMBER has that of this header. Rows and the structs
- * here may grow with the minor version: a caller that finds another one doesn't call the rest. */
+/* Returns the version of the library that is linked, in the form of GIX_INDEX_VERSION_NUMBER. Calls and structs of this
+ * header are those of each library with the same major version and at least this minor version. */
 uint32_t gix_index_version(void);
 
 /* Reads an index from all bytes of its file.

@@ -1,3 +1,4 @@
+/* SPDX-License-Identifier: MIT OR Apache-2.0 */
 /* Reading and checking the index at a path, with its link followed, and changing it or writing a table in its place by
  * way of a lock, for POSIX systems. gix_index_table.h has what reads and checks, without the rest.
  *

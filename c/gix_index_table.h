@@ -1,3 +1,4 @@
+/* SPDX-License-Identifier: MIT OR Apache-2.0 */
 /* Reading and checking the index at a path, with its link followed, and handing on the trees of a table, for POSIX
  * systems. gix_index_file.h has all of it, and writes an index too.
  *

@@ -1,3 +1,4 @@
+/* SPDX-License-Identifier: MIT OR Apache-2.0 */
 /* What the examples share: a table of an index file, which may be locked, and what is said where something fails. */
 #ifndef TABLE_H
 #define TABLE_H

@@ -1,3 +1,4 @@
+# SPDX-License-Identifier: MIT OR Apache-2.0
 """The git index: its entries, read, searched, changed and written by functions that are proved to meet their contracts.
 
 `Index` is a copy of the entries of an index file, in memory of its own. This module calls the shared library that
@@ -17,16 +18,16 @@ are kept as git keeps them, and a split index becomes whole.
 Paths of entries are bytes, from the work tree's top on and with slashes. Where a call takes one, it takes a str too, as
 `os.fsencode` encodes it.
 
-The library is libgix_index.so of this version: in the folder that GIX_INDEX_LIB names, or else in one of those that are
-above this one, or else where the system's loader finds it.
+The shared library has the module's major version, and at least its minor version. It is looked for in the folder that
+GIX_INDEX_LIB names, else in this folder and in each folder above, else where the system's loader finds it.
 """
 from ._check import check, check_file
 from ._index import Index, Locked
-from ._library import NUMBERS, VERSION
+from ._library import NUMBERS, UPSTREAM_VERSION, VERSION
 from ._values import Comparison, Entry, Error, Flags, Kind, Mode, Refused, Stat
 
 __all__ = [
-    "NUMBERS", "Comparison", "Entry", "Error", "Flags", "Index", "Kind", "Locked", "Mode", "Refused", "Stat", "check",
-    "check_file"
+    "NUMBERS", "UPSTREAM_VERSION", "Comparison", "Entry", "Error", "Flags", "Index", "Kind", "Locked", "Mode",
+    "Refused", "Stat", "check", "check_file"
 ]
 __version__ = VERSION

@@ -1,3 +1,4 @@
+# SPDX-License-Identifier: MIT OR Apache-2.0
 """Checking an index, from bytes and from its path."""
 from __future__ import annotations
 

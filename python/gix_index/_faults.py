@@ -1,3 +1,4 @@
+# SPDX-License-Identifier: MIT OR Apache-2.0
 """What a status of a call raises, and how a kind is found."""
 from __future__ import annotations
 

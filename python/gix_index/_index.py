@@ -1,3 +1,4 @@
+# SPDX-License-Identifier: MIT OR Apache-2.0
 """An index, and one that is locked."""
 from __future__ import annotations
 

@@ -1,3 +1,4 @@
+# SPDX-License-Identifier: MIT OR Apache-2.0
 """The shared library: the numbers, structures and calls of its headers, by their names there."""
 from __future__ import annotations
 
@@ -8,7 +9,8 @@ import pathlib
 import struct
 from typing import Any, Optional, Union
 
-VERSION = "0.55.0"
+VERSION = "1.0.0"
+UPSTREAM_VERSION = "0.55.0"
 
 # The numbers of the headers in C, by their names there.
 NUMBERS = {
@@ -206,7 +208,8 @@ CALLS = {
 @functools.lru_cache(maxsize=None)
 def library() -> ctypes.CDLL:
     """The shared library, by whose calls errno is kept."""
-    name = f"libgix_index.so.{VERSION.rpartition('.')[0]}"
+    major, minor, patch = map(int, VERSION.split("."))
+    name = f"libgix_index.so.{major}"
     asked = os.environ.get("GIX_INDEX_LIB")
     folders = [pathlib.Path(asked)] if asked else pathlib.Path(__file__).resolve().parents
     there = next((folder / name for folder in folders if (folder / name).is_file()), name)
@@ -215,12 +218,14 @@ def library() -> ctypes.CDLL:
     except OSError as error:
         what = f"{error}: `c/install PREFIX` builds it, and GIX_INDEX_LIB may name its folder, PREFIX/lib"
         raise ImportError(what, name="gix_index") from error
+    # (each later minor version has the same calls and structures)
+    number = loaded.gix_index_version()
+    if number >> 16 != major or number < major << 16 | minor << 8 | patch:
+        what = f"{there} has version {number >> 16}.{number >> 8 & 255}.{number & 255}, and {VERSION} or later is needed"
+        raise ImportError(f"{what}: `c/install PREFIX` builds it", name="gix_index")
     for call, (answer, *words) in CALLS.items():
         function = getattr(loaded, call)
         function.restype, function.argtypes = answer, words
-    major, minor, patch = map(int, VERSION.split("."))
-    if loaded.gix_index_version() != major << 16 | minor << 8 | patch:
-        raise ImportError(f"{there} is another version than {VERSION}: `c/install PREFIX` builds this", name="gix_index")
     return loaded
 
 

@@ -1,3 +1,4 @@
+# SPDX-License-Identifier: MIT OR Apache-2.0
 """Kinds, modes, flags, stats and entries, and what is raised."""
 from __future__ import annotations
 

@@ -1,3 +1,4 @@
+// SPDX-License-Identifier: MIT OR Apache-2.0
 //! Changing an index as git changes it.
 
 use crate::entry::{flags, mode};

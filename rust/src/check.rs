@@ -1,3 +1,4 @@
+// SPDX-License-Identifier: MIT OR Apache-2.0
 //! Checking an index, from bytes and from its path.
 
 use crate::raw::{self, Summary};

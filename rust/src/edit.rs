@@ -1,3 +1,4 @@
+// SPDX-License-Identifier: MIT OR Apache-2.0
 //! Changing the entries of an index in memory.
 
 use crate::entry::flags::STAGE_MASK;

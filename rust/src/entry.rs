@@ -1,3 +1,4 @@
+// SPDX-License-Identifier: MIT OR Apache-2.0
 //! An entry of an index: its stat numbers, its mode, its flags, and the entry itself, lent.
 
 use crate::raw::{self, Comparison, Row, Seen};

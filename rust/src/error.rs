@@ -1,3 +1,4 @@
+// SPDX-License-Identifier: MIT OR Apache-2.0
 //! Why an index isn't read or written.
 
 use crate::raw::{self, Summary, Given, Written};

@@ -1,3 +1,4 @@
+// SPDX-License-Identifier: MIT OR Apache-2.0
 //! The git index, read and written by a static library whose functions are proved to meet their contracts.
 //!
 //! [`Index`] is a copy of the entries of an index file, in memory of its own, to be searched, changed and written.
@@ -50,6 +51,12 @@ use std::fmt;
 use std::ops::Range;
 use std::str::FromStr;
 use std::time::SystemTime;
+
+/// The version of this crate, which is that of the library.
+pub const VERSION: &str = env!("CARGO_PKG_VERSION");
+
+/// The version of the crate `gix-index` whose port the library is.
+pub const UPSTREAM_VERSION: &str = "0.55.0";
 
 /// Which hash function a repository names its objects by. Its text is `sha1` or `sha256`.
 #[derive(Clone, Copy, Debug, PartialEq, Eq, PartialOrd, Ord, Hash)]

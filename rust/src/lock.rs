@@ -1,3 +1,4 @@
+// SPDX-License-Identifier: MIT OR Apache-2.0
 //! Locking the index at a path, and writing in its place.
 
 use crate::read::{Opened, or_default};

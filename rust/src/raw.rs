@@ -1,4 +1,5 @@
-//! The calls of `libindex_c.a`, as `c/gix_index.h` declares them. Numbers and fields are compared by `test_numbers`,
+// SPDX-License-Identifier: MIT OR Apache-2.0
+//! The calls of `libgix_index.a`, as `c/gix_index.h` declares them. Numbers and fields are compared by `test_numbers`,
 //! the rest by `test_linked` alone.
 
 pub const DONE: u32 = 0;

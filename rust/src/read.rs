@@ -1,3 +1,4 @@
+// SPDX-License-Identifier: MIT OR Apache-2.0
 //! Reading an index from bytes, and from its path.
 
 use crate::entry::Hex;

@@ -1,3 +1,4 @@
+// SPDX-License-Identifier: MIT OR Apache-2.0
 //! Giving the trees of an index.
 
 use crate::raw::{self, Tree, Given};

@@ -1,3 +1,4 @@
+// SPDX-License-Identifier: MIT OR Apache-2.0
 //! Writing an index as bytes, and to its path.
 
 use crate::raw::{self, Form, Written};

@@ -86,14 +86,13 @@ module _ (kind : Kind) (limit : Option ℕ) (signature content : List ℕ) (old 
       → pointwise nat_eq signature (codes "FSMN") ≡ false → pointwise nat_eq signature (codes "sdir") ≡ false
       → pointwise nat_eq signature (codes "EOIE") ≡ false → pointwise nat_eq signature (codes "IEOT") ≡ false
       → Adds kind limit signature content old old
-  adds_nothing not_link not_tree not_resolve_undo not_untracked not_fs_monitor not_sparse not_marker not_table =
-      record {
+  adds_nothing not_link not_tree not_undo not_untracked not_monitor not_sparse not_marker not_table = record {
     tree = rw not_tree refl;
     link = rw not_link refl;
     whole_link = λ other. absurd cc;
-    resolve_undo = rw not_resolve_undo refl;
+    resolve_undo = rw not_undo refl;
     untracked = rw not_untracked refl;
-    fs_monitor = rw not_fs_monitor refl;
+    fs_monitor = rw not_monitor refl;
     sparse = rw not_sparse (stays old.sparse);
     had_end_marker = rw not_marker (stays old.had_end_marker);
     had_offset_table = rw not_table (stays old.had_offset_table);

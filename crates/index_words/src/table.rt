@@ -41,8 +41,8 @@ const AUTO_BOTH: &str =
 const UNCHECKED: &str =
     "Without --strict the modes, paths and ids of entries, and paths beside their directory, aren't looked at.";
 
-/// The version of the program.
-const VERSION: &str = "0.55.0";
+/// The version of this project, and that of the crate that it ports.
+const VERSION: &str = "1.0.0 (gix-index 0.55.0)";
 
 /// What the help says of a command.
 fn about(name: &str) -> &'static str {

@@ -23,8 +23,8 @@ const ANSWERS: [Row; 34] = [
         "Usage: index-tool salvage [OPTIONS] <KIND> <FILE> <OUT>",
     ),
     (&["help", "help"], DONE, "Usage: index-tool help [COMMAND]"),
-    (&["--version"], DONE, "index-tool 0.55.0\n"),
-    (&["-V"], DONE, "index-tool 0.55.0\n"),
+    (&["--version"], DONE, " (gix-index "),
+    (&["-V"], DONE, " (gix-index "),
     (
         &[],
         WRONG_WORDS,
