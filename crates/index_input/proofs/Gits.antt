@@ -3,7 +3,6 @@ use Rattle.std.proofs.Common.{◌≡◌, ◌∙◌, ℕ, List, Bool, true, false
 use Rattle.std.specs.Prelude.{IfSome}
 use Rattle.std.specs.IoError.{error_kind}
 use Rattle.std.specs.declared.io.Error.{Error as IoError}
-use Rattle.gix_index.specs.Disk.{MayHave}
 use Rattle.gix_index.specs.Disk.World.{Absent, Directory, Holds, IsFaultOf, Known, Leads, MayBe, Special, Stored}
 use Rattle.gix_index.specs.Disk.World.{Unknown}
 use Rattle.index_input.specs.Faults.{IsOfFault}
@@ -25,13 +24,16 @@ opened_folder (Leads to) stored plain Told opened is told says other = tt
 opened_folder Directory stored plain Told opened is told says other = absurd opened
 opened_folder Special stored plain Told opened is told says other = absurd opened
 
-pub opened_file : (k : Known) (text : List ℕ) → MayBeOpened k → MayHave k text → MayBeFile k text
-opened_file Unknown text opened held = tt
-opened_file Absent text opened held = absurd opened
-opened_file (Holds file) text opened held = held
-opened_file (Leads to) text opened held = tt
-opened_file Directory text opened held = absurd opened
-opened_file Special text opened held = absurd opened
+-- all bytes of the file that was opened
+pub opened_file : (k : Known) (stored : Option Stored) (text : List ℕ) → MayBeOpened k
+    → MayBe k (λ there. stored ≡ Some there) → IfSome stored (λ file. text ≡ file.bytes) → MayBeFile k text
+opened_file Unknown stored text opened is held = tt
+opened_file Absent stored text opened is held = absurd opened
+opened_file (Holds file) stored text opened is held =
+    subst (λ (s : Option Stored). IfSome s (λ f. text ≡ f.bytes)) is held
+opened_file (Leads to) stored text opened is held = tt
+opened_file Directory stored text opened is held = absurd opened
+opened_file Special stored text opened is held = absurd opened
 
 -- a fault of the disk for a `.git`
 pub git_fault : (works : Bool) (k : Known) (git : List ℕ) (e : IoError) (error : Error) → (works ≡ true → IsFaultOf k e)

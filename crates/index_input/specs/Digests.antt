@@ -1,14 +1,13 @@
 -- Which kind of ids an index has by its trailer (gitformat-index, "Hash checksum over the content of the index file
 -- before this checksum").
-use Rattle.std.specs.Prelude.{◌≡◌, ◌≤◌, ◌-◌, ◌++◌, ◌↔◌, ℕ, Bool, List, length, take, drop, true, Option, Some, None}
+use Rattle.std.specs.Prelude.{◌≡◌, ◌≤◌, ◌↔◌, ℕ, Bool, List, length, take, true, Option, Some, None}
 use Rattle.std.specs.Prelude.{Result, IfErr, IfOk, IfSome, IsTrue, codes}
 use Rattle.std.specs.Global.{Vec}
 use Rattle.std.specs.IoError.{error_kind}
 use Rattle.std.specs.declared.io.Error.{Error}
 use Rattle.std.specs.declared.io.ErrorKind.TheVariants.{OutOfMemory}
 use Rattle.gix_index.specs.Disk.World.{whole_of}
-use Rattle.gix_index.specs.Hashing.Digest.{Holds, digest, hasher_kind}
-use Rattle.gix_index.specs.Hashing.Hasher.{Hasher}
+use Rattle.gix_index.specs.Hashing.Digest.{digest}
 use Rattle.gix_index.specs.Id.{id_len}
 use Rattle.gix_index.specs.Intact.{checked_part, trailer_part}
 use Rattle.gix_index.specs.Kind.{Kind}
@@ -34,12 +33,6 @@ abbrev pub HasSignature : List ℕ → Type 0
 HasSignature bytes = take 4 bytes ≡ codes "DIRC"
 
 -- ---- what each reading of an open file answers
-
--- The bytes at hand were hashed but for the last, of which an id has as many, and these alone stay.
-pub record HashesAllBut (kind : Kind) (h i : Hasher) (old new : List ℕ) : Type 0 where
-  pub kind_stays : hasher_kind i ≡ hasher_kind h
-  pub taken : (m : List ℕ) → Holds h m → Holds i (m ++ take (length old - id_len kind) old)
-  pub left : new ≡ drop (length old - id_len kind) old
 
 -- all bytes of the file, where that is known
 pub record ReadsFew {S : Type 0} (source : Ghosts S) (old new : S) (result : Result (Option (Vec ℕ)) Error)

@@ -8,9 +8,12 @@ use Rattle.std.specs.declared.io.Error.{Error as IoError}
 use Rattle.std.specs.declared.path.Path.{Path}
 use Rattle.gix_index.specs.Disk.{MayHave}
 use Rattle.gix_index.specs.Disk.World.{Absent, Directory, Holds, Known, Leads, MayBeMissing, Special, Unknown, World}
+use Rattle.gix_index.specs.Disk.World.{whole_of}
 use Rattle.gix_index.specs.Kind.{Kind}
 use Rattle.gix_index.specs.Kind.TheVariants as kinds
 use Rattle.gix_index.specs.OnDisk.FolderTrait.{Ghosts}
+use Rattle.gix_index.specs.OnDisk.SourceTrait.{Ghosts as Source}
+use Rattle.index_folder.specs.Sizes.{IsOwnFault}
 use Rattle.index_input.specs.Config.{format_of}
 use Rattle.index_input.specs.Faults.{IsUnreadable}
 use Rattle.index_input.specs.Place.{MayBeOpened, path_in}
@@ -71,6 +74,11 @@ pub record IsKindInRepository (world : World) (path : List ℕ) (kind : Kind) : 
   pub says : SaysRepositoryFormat (world config) (Some kind)
 
 -- ---- what each look at a file answers
+
+-- all bytes of an open file, where it is known
+pub record ReadsWholeText {S : Type 0} (source : Source S) (file : S) (result : Result (Vec ℕ) IoError) : Type 0 where
+  pub text : IfOk result (λ text. IfSome (source.stored file) (λ whole. text.items ≡ whole.bytes))
+  pub fault : source.works file ≡ true → IfErr result (IsOwnFault (whole_of (source.stored file)))
 
 -- all bytes of the file at a path; none where it may be missing
 pub record ReadsText {D F M : Type 0} (folder : Ghosts D F M) (now : D) (path : Path)

@@ -4,14 +4,17 @@ ghost use Rattle.std.specs.Prelude.{◌≡◌, IfErr, IfOk};
 ghost use Rattle.std.specs.Option.{option_copied, option_map};
 ghost use Rattle.std.specs.Path.{path_buf_bytes};
 ghost use Rattle.std.specs.String.{string_bytes};
+ghost use Rattle.gix_index.specs.Disk.World.{whole_of};
 ghost use Rattle.index_input.specs.Place.{MayBeOpened, gitdir_of, index_in, path_in, text_given, without_line_ends};
 ghost use Rattle.index_input.specs.PlaceFaults.{FindsIndex, IsPlaced, IsUpward, LeadsByText, SaysOfPlace};
 ghost use Rattle.index_input.specs.PlaceFaults.{SaysOfSearch, SaysOfText};
+ghost use Rattle.index_input.specs.Repository.{ReadsWholeText};
 
 use crate::error::Error;
-use gix_index::file::bytes_at;
 use gix_index::file::folder::{Folder, Source, Standing};
+use index_folder::whole::{read_to_end, room_for};
 use std::alloc::{AllocError, Global};
+use std::io;
 use std::io::ErrorKind;
 use std::path::PathBuf;
 
@@ -45,6 +48,16 @@ fn without_line_ends(text: &[u8]) -> &[u8]
         len -= 1;
     }
     &text[..len]
+}
+
+/// All bytes of an open file, which stands at its start.
+pub(crate) fn text_of<S: Source>(alloc: Global, mut file: S) -> io::Result<Vec<u8>>
+    requires { S.remaining file ≡ whole_of (S.stored file) }
+    ensures { ReadsWholeText S.Source file result }
+{
+    let mut text = room_for(alloc, file.status()?)?;
+    read_to_end(&mut file, &mut text)?;
+    Ok(text)
 }
 
 /// The path that a text says: all of it without the line ends at its end. None where nothing is left.
@@ -108,8 +121,8 @@ fn index_by_opening<D: Folder>(
         Ok(_) => return Ok(Some(index_in(git)?)),
         Err(e) => return Err(Error::of(git, e)),
     }
-    match bytes_at(folder, alloc, git.as_path()) {
-        Ok((text, _)) => Ok(Some(index_by_text(alloc, git, &text)?)),
+    match text_of(alloc, file) {
+        Ok(text) => Ok(Some(index_by_text(alloc, git, &text)?)),
         Err(e) => Err(Error::of(git, e)),
     }
 }

@@ -9,10 +9,9 @@ ghost use Rattle.index_input.specs.Repository.{ReadsText, common_beside};
 
 use crate::config::format_of;
 use crate::error::Error;
-use crate::place::path_in;
-use gix_index::file::folder::{Folder, Source, Standing};
+use crate::place::{path_in, text_of};
+use gix_index::file::folder::{Folder, Standing};
 use gix_index::hash::Kind;
-use index_folder::whole::{read_to_end, room_for};
 use std::alloc::Global;
 use std::io;
 use std::io::ErrorKind;
@@ -22,14 +21,11 @@ use std::path::{Path, PathBuf};
 fn text_at<D: Folder>(folder: &D, alloc: Global, path: Path<'_>) -> io::Result<Option<Vec<u8>>>
     ensures { ReadsText D.Folder folder.now path.entry result }
 {
-    let mut file = match folder.open(path) {
-        Ok(file) => file,
-        Err(e) if e.kind() == ErrorKind::NotFound => return Ok(None),
-        Err(e) => return Err(e),
-    };
-    let mut text = room_for(alloc, file.status()?)?;
-    read_to_end(&mut file, &mut text)?;
-    Ok(Some(text))
+    match folder.open(path) {
+        Ok(file) => Ok(Some(text_of(alloc, file)?)),
+        Err(e) if e.kind() == ErrorKind::NotFound => Ok(None),
+        Err(e) => Err(e),
+    }
 }
 
 /// The kind that the `config` at a path says, as [`format_of`] reads it. None where it names another kind, or isn't

@@ -1,20 +1,18 @@
 //! Which kind of ids an index has by its trailer.
 
 ghost use Rattle.std.specs.Prelude.{◌↔◌, IsTrue};
-ghost use Rattle.index_input.specs.Digests.{ComparesDigest, EndsWithDigest, HashesAllBut, IsKindOf, ReadsFew};
-ghost use Rattle.index_input.specs.Digests.{TellsTrailer};
+ghost use Rattle.index_input.specs.Digests.{ComparesDigest, EndsWithDigest, IsKindOf, ReadsFew, TellsTrailer};
 
 use gix_index::file::folder::Source;
-use gix_index::hash::{Hasher, Kind, digest};
-use index_folder::pieces::{append_piece, fill, remove_front};
-use index_folder::whole::{MAX_LEN, too_long};
+use gix_index::hash::{Kind, digest};
+use index_folder::pieces::fill;
+use index_window::WINDOW_LEN;
+use index_window::disk::read_hashed;
 use std::alloc::Global;
 use std::io;
 
 /// A file of so many bytes is held, and both digests are taken of what is held.
 const FEW: usize = 1_048_576;
-/// A file of more bytes is read in pieces of so many.
-const WINDOW_LEN: usize = 262_144;
 
 /// Whether the last bytes, as many as an id of the kind has, are the digest of all before them.
 fn ends_with_digest(kind: Kind, bytes: &[u8]) -> bool
@@ -60,15 +58,6 @@ fn few_bytes<S: Source>(alloc: Global, file: &mut S) -> io::Result<Option<Vec<u8
     Ok(Some(bytes))
 }
 
-/// Hashes the bytes at hand but for the last, of which an id of the kind has as many, and lets them go.
-fn hash_all_but(hasher: &mut Hasher, kind: Kind, bytes: &mut Vec<u8>)
-    ensures { HashesAllBut kind hasher.old hasher.new bytes.old.items bytes.new.items }
-{
-    let end = bytes.len().saturating_sub(kind.len_in_bytes());
-    hasher.update(&bytes[..end]);
-    remove_front(bytes, end);
-}
-
 /// Whether the trailer of an open file is the digest of this kind of all bytes before it. The file is read from its
 /// start in pieces, and no more than one of these is held.
 fn is_digest_of<S: Source>(alloc: Global, file: &mut S, kind: Kind) -> io::Result<bool>
@@ -76,19 +65,8 @@ fn is_digest_of<S: Source>(alloc: Global, file: &mut S, kind: Kind) -> io::Resul
 {
     file.go_to(0)?;
     let mut window = Vec::with_capacity(alloc, WINDOW_LEN)?;
-    let mut hasher = Hasher::new(kind);
-    let mut len: u64 = 0;
-    'pieces: loop {
-        let count = append_piece(file, &mut window)?;
-        len += count as u64;
-        if len > MAX_LEN {
-            return Err(too_long());
-        }
-        hash_all_but(&mut hasher, kind, &mut window);
-        if count == 0 {
-            return Ok(hasher.finalize().as_bytes() == window.as_slice());
-        }
-    }
+    let digest = read_hashed(file, kind, false, &mut window)?;
+    Ok(digest.as_bytes() == window.as_slice())
 }
 
 /// The kind of the ids of an index in an open file, by its trailer, as [`kind_of`] has it. A file of at most [`FEW`]

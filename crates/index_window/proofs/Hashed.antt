@@ -13,10 +13,10 @@ use Rattle.index_parts.specs.Id.{id_len, make_id}
 use Rattle.index_parts.specs.declared.hash.Hasher.{Hasher}
 use Rattle.index_parts.specs.declared.hash.Kind.{Kind}
 use Rattle.index_parts.specs.declared.hash.ObjectId.{ObjectId}
-use Rattle.index_window.specs.Intact.{checked_part}
+use Rattle.index_window.specs.Intact.{checked_part, trailer_part}
 use Rattle.index_window.specs.ReadWhole.{AreHashed, AreFilePieces, PassesFront}
 use Rattle.index_window.specs.declared.disk.Pieces.{Pieces}
-use Rattle.index_window.proofs.Endings.{before_end}
+use Rattle.index_window.proofs.Endings.{before_end, near_end}
 use Rattle.index_window.proofs.Fronts.{front_grown}
 
 -- some bytes behind those before were read, all of these are so many, and what is at hand of them is hashed up to a
@@ -55,6 +55,11 @@ checked_of : (gone new : List ℕ) (n : ℕ) → (gone ≡ []) ⊎ (n ≤ length
 checked_of gone new n (inl e) = rw e refl
 checked_of gone new n (inr le) = before_end gone new n le
 
+trailer_of : (gone new : List ℕ) (n : ℕ) → (gone ≡ []) ⊎ (n ≤ length new)
+    → drop (length (gone ++ new) - n) (gone ++ new) ≡ drop (length new - n) new
+trailer_of gone new n (inl e) = rw e refl
+trailer_of gone new n (inr le) = near_end gone new n le
+
 pub by_bool : {A : Type 0} (b : Bool) → (b ≡ true → A) → (b ≡ false → A) → A
 by_bool true f g = f refl
 by_bool false f g = g refl
@@ -75,12 +80,6 @@ left_long gone new n (inl lt) (inr le) = absurd (omega arith)
 left_long gone new n (inl lt) (inl e) =
     let none : length new - n ≡ 0 = omega arith in
     inl (rw (e, none) refl)
-
-fits : (before gone more new : List ℕ) (n : ℕ) → before ++ more ≡ gone ++ new → (gone ≡ []) ⊎ (n ≤ length new)
-    → n ≤ length before → n ≤ length new
-fits before gone more new n same (inr le) long = le
-fits before gone more new n same (inl e) long =
-    omega (arith, ap length same, ap length e, length-append before more, length-append gone new)
 
 -- a piece came, and was passed but for the last bytes
 module _ (kind : Kind) (is_hashed is_held : Bool) (left now next : Option (List ℕ)) (h i : Hasher)
@@ -159,8 +158,10 @@ module _ (kind : Kind) (is_hashed is_held : Bool) (left now next : Option (List 
   hashed_on = by_bool is_held step_held step_let_go
 
   -- the file is at its end
-  hashed_all : is_hashed ≡ true → Holds i (checked_part kind (s.gone ++ new))
-  hashed_all y = subst (Holds i) (sym (checked_of s.gone new (id_len kind) long_grown)) (holds_grown y)
+  hashed_all : is_hashed ≡ true → Holds i (checked_part kind (before ++ (s.more ++ drop (length bytes) new)))
+  hashed_all y =
+      subst (λ (l : List ℕ). Holds i (checked_part kind l)) (sym same_grown)
+      (subst (Holds i) (sym (checked_of s.gone new (id_len kind) long_grown)) (holds_grown y))
 
   whole_grown : IsAtEnd next → IfSome left (λ l. s.more ++ drop (length bytes) new ≡ l)
   whole_grown end = Consumes-whole left next (s.more ++ drop (length bytes) new)
@@ -169,40 +170,26 @@ module _ (kind : Kind) (is_hashed is_held : Bool) (left now next : Option (List 
   end_held : IsAtEnd next → is_held ≡ true
       → AreFilePieces kind is_hashed is_held left before after (record { len = len + count; hasher = i })
   end_held end y = let e = f.held y in rw e.0 (record {
-    gone = s.gone;
     more = s.more ++ drop (length bytes) new;
-    bytes = same_grown;
     whole = whole_grown end;
     len = count_grown;
     is_kind = f.kind_stays ∙ s.is_kind;
     hashed = hashed_all;
-    held = s.held;
+    held = λ _. sym (same_grown ∙ ap (λ (l : List ℕ). l ++ new) (s.held y));
     let_go = λ n. not_both is_held y n;
   })
 
   end_let_go : IsAtEnd next → is_held ≡ false
       → AreFilePieces kind is_hashed is_held left before after (record { len = len + count; hasher = i })
-  end_let_go end n =
-      let e = f.let_go n in
-      let at : ℕ = length new - id_len kind in
-      let split : s.gone ++ new ≡ (s.gone ++ take at new) ++ drop at new =
-      ap (λ (l : List ℕ). s.gone ++ l) (sym (take-append-drop at new))
-      ∙ sym (append_assoc s.gone (take at new) (drop at new)) in
-      rw e.0 (record {
-        gone = s.gone ++ take at new;
-        more = s.more ++ drop (length bytes) new;
-        bytes = same_grown ∙ split;
-        whole = whole_grown end;
-        len = count_grown;
-        is_kind = f.kind_stays ∙ s.is_kind;
-        hashed = λ y. subst (λ (l : List ℕ). Holds i (checked_part kind l)) split (hashed_all y);
-        held = λ y. not_both is_held y n;
-        let_go = λ _ enough. omega (
-          arith,
-          length-drop at new,
-          fits before s.gone (s.more ++ drop (length bytes) new) new (id_len kind) same_grown long_grown enough,
-        );
-      })
+  end_let_go end n = let e = f.let_go n in rw e.0 (record {
+    more = s.more ++ drop (length bytes) new;
+    whole = whole_grown end;
+    len = count_grown;
+    is_kind = f.kind_stays ∙ s.is_kind;
+    hashed = hashed_all;
+    held = λ y. not_both is_held y n;
+    let_go = λ _. sym (ap (trailer_part kind) same_grown ∙ trailer_of s.gone new (id_len kind) long_grown);
+  })
 
   pub hashed_end : IsAtEnd next
       → AreFilePieces kind is_hashed is_held left before after (record { len = len + count; hasher = i })
@@ -216,21 +203,12 @@ module _ (kind : Kind) (is_held : Bool) (left : Option (List ℕ)) (before after
       → ((m : List ℕ) → Holds x.hasher m → id ≡ make_id (hasher_kind x.hasher) (digest (hasher_kind x.hasher) m))
       → AreHashed kind is_held left before after id
   digest_of_pieces id made = record {
-    gone = p.gone;
     more = p.more;
-    bytes = p.bytes;
     whole = p.whole;
-    digest = made (checked_part kind (p.gone ++ after)) (p.hashed refl) ∙ rw p.is_kind refl;
+    digest = made (checked_part kind (before ++ p.more)) (p.hashed refl) ∙ rw p.is_kind refl;
     held = p.held;
     let_go = p.let_go;
   }
 
   pub held_len : (most : ℕ) → x.len ≤ most → is_held ≡ true → length after ≤ most
-  held_len most le y = omega (
-    arith,
-    le,
-    p.len,
-    ap length p.bytes,
-    ap length (p.held y),
-    length-append p.gone after,
-  )
+  held_len most le y = omega (arith, le, p.len, ap length (p.held y))

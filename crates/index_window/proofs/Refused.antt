@@ -21,7 +21,7 @@ use Rattle.index_window.specs.Answers.{IsAllOf}
 use Rattle.index_window.specs.Intact.{IsIntact, digest_id, needs_check, trailer_id, trailer_part}
 use Rattle.index_window.specs.ReadWhole.{EndsInNull, IsRefusal, IsRefusalBehind, IsRefusedFile, IsUnchecked, LacksHeader}
 use Rattle.index_window.specs.ReadWhole.{broken, intact}
-use Rattle.index_window.proofs.Endings.{intact_free, near_end, or_right, same_by}
+use Rattle.index_window.proofs.Endings.{intact_free, or_right, same_by}
 use Rattle.index_window.proofs.Hashed.{by_bool}
 
 -- ---- the trailer at the end of a file
@@ -79,12 +79,6 @@ unchecked_waived skip kind (Some file) h = rw h refl
 
 -- ---- the digest of a file and its trailer
 
-trailer_at : (gone trailer : List ℕ) (n : ℕ) → length trailer ≡ n
-    → drop (length (gone ++ trailer) - n) (gone ++ trailer) ≡ trailer
-trailer_at gone trailer n long =
-    let none : length trailer - n ≡ 0 = omega (arith, long) in
-    near_end gone trailer n (omega (arith, long)) ∙ ap (λ (m : ℕ). drop m trailer) none
-
 not_null : (b : Bool) (x y : ObjectId) → (if b then None else Some x) ≡ Some y → b ≡ false
 not_null true x y e = absurd cc
 not_null false x y e = refl
@@ -93,28 +87,31 @@ unchecked_intact : (t : Bool) (E : Type 0) → t ≡ false → MatchBool t E (Un
 unchecked_intact true E e = absurd cc
 unchecked_intact false E e = tt
 
-module _ (kind : Kind) (gone trailer : List ℕ) (long : length trailer ≡ id_len kind) (fault : Header) where
-  pub refusal_null : is_null trailer ≡ true → IsRefusal false kind (gone ++ trailer) fault (errors.Header fault)
-  refusal_null null =
-      let none : length trailer - id_len kind ≡ 0 = omega (arith, long) in
-      intact (intact_free false kind gone trailer (omega (arith, long)) (rw none null)) refl
+module _ (kind : Kind) (bytes trailer : List ℕ) (at : trailer ≡ trailer_part kind bytes)
+    (long : length trailer ≡ id_len kind) (fault : Header) where
+  pub refusal_null : is_null trailer ≡ true → IsRefusal false kind bytes fault (errors.Header fault)
+  refusal_null null = intact (unchecked_intact (needs_check false kind bytes) _
+      (null_unchecked false _ (is_null (trailer_part kind bytes)) (ap is_null (sym at) ∙ null))) refl
 
-  pub refusal_same : (actual expected : ObjectId) → actual ≡ digest_id kind (gone ++ trailer)
-      → expected ≡ make_id kind trailer → actual ≡ expected
-      → IsRefusal false kind (gone ++ trailer) fault (errors.Header fault)
-  refusal_same actual expected is of same = intact (same_by (needs_check false kind (gone ++ trailer)) _
-      (sym is ∙ same ∙ of ∙ ap (make_id kind) (sym (trailer_at gone trailer (id_len kind) long)))) refl
+  pub refusal_same : (actual expected : ObjectId) → actual ≡ digest_id kind bytes
+      → expected ≡ make_id kind trailer → actual ≡ expected → IsRefusal false kind bytes fault (errors.Header fault)
+  refusal_same actual expected is of same = intact (same_by (needs_check false kind bytes) _
+      (sym is ∙ same ∙ of ∙ ap (make_id kind) at)) refl
 
-  pub refusal_differs : (actual expected : ObjectId) → actual ≡ digest_id kind (gone ++ trailer)
+  pub refusal_differs : (actual expected : ObjectId) → actual ≡ digest_id kind bytes
       → trailer_checksum kind trailer ≡ Some expected → expected ≡ make_id kind trailer → actual ≢ expected
-      → IsRefusal false kind (gone ++ trailer) fault (errors.Verify actual expected)
+      → IsRefusal false kind bytes fault (errors.Verify actual expected)
   refusal_differs actual expected is some of differ =
-      let at : trailer_part kind (gone ++ trailer) ≡ trailer = trailer_at gone trailer (id_len kind) long in
-      let enough = le-ltb (length (gone ++ trailer)) (id_len kind) (omega (arith, long, length-append gone trailer)) in
+      let enough = le-ltb (length bytes) (id_len kind)
+      (omega (arith, long, ap length at, length-drop (length bytes - id_len kind) bytes)) in
       let solid : is_null trailer ≡ false = not_null (is_null trailer) (make_id kind trailer) expected some in
-      let needs : needs_check false kind (gone ++ trailer) ≡ true = rw (enough, at, solid) refl in
-      let end : trailer_id kind (gone ++ trailer) ≡ expected = ap (make_id kind) at ∙ sym of in
+      let needs : needs_check false kind bytes ≡ true = rw (enough, sym at, solid) refl in
+      let end : trailer_id kind bytes ≡ expected = ap (make_id kind) (sym at) ∙ sym of in
       broken (needs, λ e. differ (is ∙ e ∙ end)) (rw (sym is, end) refl)
+
+  -- the trailer is read as long as it is
+  pub trailer_long : id_len kind ≤ length bytes → length (trailer_part kind bytes) ≡ id_len kind
+  trailer_long enough = omega (arith, enough, length-drop (length bytes - id_len kind) bytes)
 
 -- ---- what is said of the file
 

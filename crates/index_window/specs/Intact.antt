@@ -15,6 +15,10 @@ checked_part kind bytes = take (length bytes - id_len kind) bytes
 abbrev pub trailer_part : Kind → List ℕ → List ℕ
 trailer_part kind bytes = drop (length bytes - id_len kind) bytes
 
+-- there is a trailer, and all its bytes are zero
+abbrev pub ends_in_null : Kind → List ℕ → Bool
+ends_in_null kind bytes = not (nat_lt (length bytes) (id_len kind)) && is_null (trailer_part kind bytes)
+
 -- the digest is compared: the caller didn't waive it, there is a trailer, and some byte of it isn't zero
 abbrev pub needs_check : Bool → Kind → List ℕ → Bool
 needs_check skip kind bytes =

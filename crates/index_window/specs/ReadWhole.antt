@@ -1,6 +1,6 @@
 -- A file that is read to its end, not in windows: all its bytes, or its first fault, where its first bytes are no
 -- header (gitformat-index, "A 12-byte header"; the library's own).
-use Rattle.std.specs.Prelude.{◌≡◌, ◌≤◌, ℕ, ◌+◌, ◌-◌, Bool, false, true, List, [], ◌++◌, drop, length, Err, Option, Result}
+use Rattle.std.specs.Prelude.{◌≡◌, ◌≤◌, ℕ, ◌+◌, ◌-◌, Bool, false, true, List, ◌++◌, drop, length, Err, Option, Result}
 use Rattle.std.specs.Prelude.{IfErr, IfOk, IfSome, OnOk, slice_range}
 use Rattle.std.specs.declared.io.Error.{Error as IoError}
 use Rattle.index_entries.specs.Header.{header_of}
@@ -49,42 +49,42 @@ pub record PassesFront (kind : Kind) (is_hashed is_held : Bool) (from : ℕ) (h 
 -- as many, if they are to be hashed. All of these are at hand, or those last.
 pub record AreFilePieces (kind : Kind) (is_hashed is_held : Bool) (left : Option (List ℕ)) (before after : List ℕ)
     (x : Pieces) : Type 0 where
-  pub gone : List ℕ
   pub more : List ℕ
-  pub bytes : before ++ more ≡ gone ++ after
   pub whole : IfSome left (λ l. more ≡ l)
   pub len : x.len ≡ length (before ++ more)
   pub is_kind : hasher_kind x.hasher ≡ kind
-  pub hashed : is_hashed ≡ true → Holds x.hasher (checked_part kind (gone ++ after))
-  pub held : is_held ≡ true → gone ≡ []
-  pub let_go : is_held ≡ false → id_len kind ≤ length before → length after ≡ id_len kind
+  pub hashed : is_hashed ≡ true → Holds x.hasher (checked_part kind (before ++ more))
+  pub held : is_held ≡ true → after ≡ before ++ more
+  pub let_go : is_held ≡ false → after ≡ trailer_part kind (before ++ more)
 
 -- This is the digest of bytes at hand and all that were left of a file. All of these are at hand, or the last, of which
 -- an id has as many.
 pub record AreHashed (kind : Kind) (is_held : Bool) (left : Option (List ℕ)) (before after : List ℕ) (id : ObjectId)
     : Type 0 where
-  pub gone : List ℕ
   pub more : List ℕ
-  pub bytes : before ++ more ≡ gone ++ after
   pub whole : IfSome left (λ l. more ≡ l)
-  pub digest : id ≡ digest_id kind (gone ++ after)
-  pub held : is_held ≡ true → gone ≡ []
-  pub let_go : is_held ≡ false → id_len kind ≤ length before → length after ≡ id_len kind
+  pub digest : id ≡ digest_id kind (before ++ more)
+  pub held : is_held ≡ true → after ≡ before ++ more
+  pub let_go : is_held ≡ false → after ≡ trailer_part kind (before ++ more)
 
 -- want of memory, or that so many bytes at hand and all that were left of a file are too many
 abbrev pub IsFaultBehind : ℕ → Option (List ℕ) → IoError → Type 0
 IsFaultBehind before left e = IsSizeFault (IfSome left (λ l. IsTooLong (before + length l))) e
 
-pub record ReadsPieces {S : Type 0} (source : Ghosts S) (old : S) (kind : Kind) (is_hashed is_held : Bool)
+pub record ReadsPieces {S : Type 0} (source : Ghosts S) (old new : S) (kind : Kind) (is_hashed is_held : Bool)
     (before after : List ℕ) (result : Result Pieces IoError) : Type 0 where
   pub pieces : IfOk result (AreFilePieces kind is_hashed is_held (source.remaining old) before after)
   pub bound : IfOk result (λ x. x.len ≤ max_len)
+  pub stored : source.stored new ≡ source.stored old
+  pub works : source.works new ≡ source.works old
   pub fault : source.works old ≡ true → IfErr result (IsFaultBehind (length before) (source.remaining old))
 
-pub record HashesToEnd {S : Type 0} (source : Ghosts S) (old : S) (kind : Kind) (is_held : Bool) (before after : List ℕ)
-    (result : Result ObjectId IoError) : Type 0 where
+pub record HashesToEnd {S : Type 0} (source : Ghosts S) (old new : S) (kind : Kind) (is_held : Bool)
+    (before after : List ℕ) (result : Result ObjectId IoError) : Type 0 where
   pub hashed : IfOk result (AreHashed kind is_held (source.remaining old) before after)
   pub bound : OnOk result (is_held ≡ true → length after ≤ max_len)
+  pub stored : source.stored new ≡ source.stored old
+  pub works : source.works new ≡ source.works old
   pub fault : source.works old ≡ true → IfErr result (IsFaultBehind (length before) (source.remaining old))
 
 -- ---- bytes that are no header
@@ -101,7 +101,8 @@ pub data IsRefusal (skip : Bool) (kind : Kind) (bytes : List ℕ) (fault : Heade
 -- the same of bytes that end in a trailer, where this is their digest
 abbrev pub IsComparedFirst : Kind → ObjectId → List ℕ → Header → Error → Type 0
 IsComparedFirst kind id trailer fault e =
-    (gone : List ℕ) → id ≡ digest_id kind (gone ++ trailer) → IsRefusal false kind (gone ++ trailer) fault e
+    (bytes : List ℕ) → trailer ≡ trailer_part kind bytes → id ≡ digest_id kind bytes
+    → IsRefusal false kind bytes fault e
 
 -- the same of a head and of all that was left of a file behind it
 abbrev pub IsRefusalBehind : Kind → List ℕ → Option (List ℕ) → Header → Error → Type 0

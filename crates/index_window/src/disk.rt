@@ -9,7 +9,7 @@ ghost use Rattle.index_format.specs.declared.error.Error.TheVariants.{Header};
 ghost use Rattle.index_parts.specs.Id.{id_len};
 ghost use Rattle.index_window.specs.Answers.{IsAllOf};
 ghost use Rattle.index_window.specs.Counted.{CountsRest, IsCountedFile};
-ghost use Rattle.index_window.specs.Intact.{digest_id};
+ghost use Rattle.index_window.specs.Intact.{digest_id, ends_in_null};
 ghost use Rattle.index_window.specs.ReadWhole.{EndsInNull, HashesToEnd, IsComparedFirst, IsReadWhole};
 ghost use Rattle.index_window.specs.ReadWhole.{HoldsFew, IsFaultBehind, IsRefusalBehind, IsUnchecked};
 ghost use Rattle.index_window.specs.ReadWhole.{LacksHeader, PassesFront, ReadsPieces};
@@ -54,9 +54,21 @@ struct Pieces {
     hasher: Hasher,
 }
 
+/// Whether the last bytes, of which an id of the kind has as many, are there and all zero.
+pub(crate) fn ends_in_null(kind: Kind, bytes: &[u8]) -> bool
+    ensures { result ≡ ends_in_null kind bytes.now }
+{
+    let len = kind.len_in_bytes();
+    bytes.len() >= len && trailer::checksum(kind, &bytes[bytes.len() - len..]).is_none()
+}
+
 /// Whether a file's last bytes, of which an id has as many, are all zero. It says no of what is no plain file, as a
 /// pipe, which can be read only in order. The file then stands at its start, and the room is empty.
-fn ends_in_null<S: Source>(file: &mut S, kind: Kind, room: &mut Vec<u8>) -> io::Result<bool>
+fn has_null_trailer<S: Source>(
+    file: &mut S,
+    kind: Kind,
+    room: &mut Vec<u8>,
+) -> io::Result<bool>
     requires room { room.old.items ≡ [] }
     requires start { S.remaining file.old ≡ whole_of (S.stored file.old) }
     ensures room { OnOk result (room.new.items ≡ []) }
@@ -70,7 +82,7 @@ fn ends_in_null<S: Source>(file: &mut S, kind: Kind, room: &mut Vec<u8>) -> io::
     let len = kind.len_in_bytes();
     file.go_to(status.len.saturating_sub(len as u64))?;
     fill(file, room, len)?;
-    let is_null = room.len() == len && trailer::checksum(kind, room).is_none();
+    let is_null = room.len() == len && ends_in_null(kind, room);
     room.clear();
     file.go_to(0)?;
     Ok(is_null)
@@ -95,7 +107,7 @@ fn may_be_compared<S: Source>(
     if skip_hash {
         return Ok(false);
     }
-    Ok(!ends_in_null(file, kind, room)?)
+    Ok(!has_null_trailer(file, kind, room)?)
 }
 
 /// Hashes the bytes at hand from a place on, if they are to be hashed, but for the last, of which an id has as many.
@@ -133,7 +145,7 @@ fn read_pieces<S: Source>(
     is_held: bool,
     bytes: &mut Vec<u8>,
 ) -> io::Result<Pieces>
-    ensures { ReadsPieces S.Source file.old kind is_hashed is_held bytes.old.items
+    ensures { ReadsPieces S.Source file.old file.new kind is_hashed is_held bytes.old.items
         bytes.new.items result }
 {
     let mut hasher = Hasher::new(kind);
@@ -153,14 +165,15 @@ fn read_pieces<S: Source>(
 }
 
 /// Reads a file to its end, behind bytes that were read of it. The digest is that of all bytes but the last, of which
-/// an id has as many. Only those last stay unless all are held.
-fn read_hashed<S: Source>(
+/// an id has as many. Only those last stay unless all are held. It is an error that there are more than [`MAX_LEN`].
+pub fn read_hashed<S: Source>(
     file: &mut S,
     kind: Kind,
     is_held: bool,
     bytes: &mut Vec<u8>,
 ) -> io::Result<ObjectId>
-    ensures { HashesToEnd S.Source file.old kind is_held bytes.old.items bytes.new.items result }
+    ensures { HashesToEnd S.Source file.old file.new kind is_held bytes.old.items bytes.new.items
+        result }
 {
     let pieces = read_pieces(file, kind, true, is_held, bytes)?;
     Ok(pieces.hasher.finalize())

@@ -8,13 +8,12 @@ ghost use Rattle.index_window.specs.Answers.{IsAllOf, IsWindowed};
 ghost use Rattle.index_window.specs.Windowed.{IfGiven};
 
 use crate::ReadOptions;
+use crate::disk::ends_in_null;
 use crate::plan::KEPT_LEN;
 use crate::windows::{WindowedIndex, place_in, windowed};
 use index_folder::folder::Source;
 use index_folder::pieces::fill;
 use index_folder::whole::{MAX_LEN, too_long};
-use index_parts::hash::Kind;
-use index_reading::trailer;
 use std::alloc::Global;
 use std::io;
 
@@ -31,12 +30,6 @@ fn end_of<S: Source>(alloc: Global, file: &mut S, len: u64) -> io::Result<Vec<u8
     end.truncate(KEPT_LEN);
     file.go_to(0)?;
     Ok(end)
-}
-
-/// Whether the last bytes, of which an id of the kind has as many, are all zero.
-fn ends_in_null(kind: Kind, end: &[u8]) -> bool {
-    let len = kind.len_in_bytes();
-    end.len() >= len && trailer::checksum(kind, &end[end.len() - len..]).is_none()
 }
 
 /// Whether an end marker names a place behind the end of a file of so many bytes. No window would be large enough.

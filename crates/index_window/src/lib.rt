@@ -13,6 +13,8 @@ pub mod passed;
 mod plan;
 pub mod windows;
 
+pub use plan::WINDOW_LEN;
+
 /// How an index file is read.
 #[derive(Clone, Copy)]
 pub struct ReadOptions {

@@ -9,7 +9,7 @@ use index_entries::Version;
 use index_parts::hash::{Hasher, Kind};
 
 /// How many bytes are read at once.
-pub(super) const WINDOW_LEN: usize = 262_144;
+pub const WINDOW_LEN: usize = 262_144;
 
 /// So many of the bytes that were decoded stay in the window: an end marker and the trailer have room there.
 pub const KEPT_LEN: usize = 52;

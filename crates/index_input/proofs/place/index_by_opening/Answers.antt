@@ -1,8 +1,8 @@
 use Rattle.std.proofs.Common.{◌≡◌, ℕ, List, Some, sym, subst}
 use Rattle.std.specs.Path.{path_buf_bytes}
 use Rattle.std.proofs.lemmas.Result.{err_from_is_err_and}
-use Rattle.gix_index.specs.Disk.{MayHave}
-use Rattle.gix_index.specs.Disk.World.{IsFaultOf, MayBe, World}
+use Rattle.gix_index.specs.Disk.World.{MayBe, World}
+use Rattle.index_folder.proofs.Sizes.{own_fault_at}
 use Rattle.index_input.specs.Place.{MayBeFile, by_file, by_folder}
 use Rattle.index_input.proofs.Gits.{git_fault, opened_file, opened_folder}
 use Rattle.index_input.proofs.place.index_by_opening.Goals as goal
@@ -18,43 +18,46 @@ returns-in-Ok-2 g c =
       fault = tt;
     }
 
-pub returns-in-Ok-bytes_at : goal.returns-in-Ok-bytes_at
-returns-in-Ok-bytes_at g c =
+pub returns-in-Ok-text_of : goal.returns-in-Ok-text_of
+returns-in-Ok-text_of g c =
     let world : World = g.D.Folder.known c.args.folder.now in
-    let leads = c.in_ok-index_by_text-in-Ok-bytes_at.ensures.leads in
-    let held = subst (λ (p : List ℕ). MayHave (world p) c.in-Ok-bytes_at.text.items) c.as_path-2.ensures
-    c.in-Ok-bytes_at.ensures.held in
+    let leads = c.in_ok-index_by_text-in-Ok-text_of.ensures.leads in
+    let opened = subst (λ (p : List ℕ). MayBe (world p) (λ there. g.D.File.Source.stored c.in-Ok.file ≡ Some there))
+    c.as_path.ensures c.in-Ok.ensures.opened in
     record {
       leads = by_file c.deref.result.now leads.0 _
           (subst (λ (text : List ℕ). MayBeFile (world (path_buf_bytes c.args.git)) text) (sym c.deref.ensures.value)
-          (opened_file _ _ c.requires held)) leads.1 leads.2;
+          (opened_file _ _ _ c.requires opened c.in-Ok-text_of.ensures.text)) leads.1 leads.2;
       passed = tt;
       fault = tt;
     }
 
-pub returns-in_err-index_by_text-in-Ok-bytes_at : goal.returns-in_err-index_by_text-in-Ok-bytes_at
-returns-in_err-index_by_text-in-Ok-bytes_at g c =
+pub returns-in_err-index_by_text-in-Ok-text_of : goal.returns-in_err-index_by_text-in-Ok-text_of
+returns-in_err-index_by_text-in-Ok-text_of g c =
     let world : World = g.D.Folder.known c.args.folder.now in
-    let p = err_from_is_err_and c.from_residual-in_err-index_by_text-in-Ok-bytes_at.result
-    c.from_residual-in_err-index_by_text-in-Ok-bytes_at.ensures.1 in
-    let held = subst (λ (p : List ℕ). MayHave (world p) c.in-Ok-bytes_at.text.items) c.as_path-2.ensures
-    c.in-Ok-bytes_at.ensures.held in
+    let p = err_from_is_err_and c.from_residual-in_err-index_by_text-in-Ok-text_of.result
+    c.from_residual-in_err-index_by_text-in-Ok-text_of.ensures.1 in
+    let opened = subst (λ (p : List ℕ). MayBe (world p) (λ there. g.D.File.Source.stored c.in-Ok.file ≡ Some there))
+    c.as_path.ensures c.in-Ok.ensures.opened in
     rw (p.1, p.2) (record {
       leads = tt;
       passed = tt;
-      fault = c.in_err-index_by_text-in-Ok-bytes_at.ensures.fault (g.D.Folder.works c.args.folder.now)
+      fault = c.in_err-index_by_text-in-Ok-text_of.ensures.fault (g.D.Folder.works c.args.folder.now)
           (world (path_buf_bytes c.args.git))
           (subst (λ (text : List ℕ). MayBeFile (world (path_buf_bytes c.args.git)) text) (sym c.deref.ensures.value)
-          (opened_file _ _ c.requires held));
+          (opened_file _ _ _ c.requires opened c.in-Ok-text_of.ensures.text));
     })
 
 pub returns : goal.returns
 returns g c =
+    let world : World = g.D.Folder.known c.args.folder.now in
+    let opened = subst (λ (p : List ℕ). MayBe (world p) (λ there. g.D.File.Source.stored c.in-Ok.file ≡ Some there))
+    c.as_path.ensures c.in-Ok.ensures.opened in
     record {
       leads = tt;
       passed = tt;
-      fault = git_fault (g.D.Folder.works c.args.folder.now)
-          (g.D.Folder.known c.args.folder.now (path_buf_bytes c.args.git)) (path_buf_bytes c.args.git) _ _
-          (λ w. subst (λ (p : List ℕ). IsFaultOf (g.D.Folder.known c.args.folder.now p) c.in-Err-bytes_at.e)
-          c.as_path-2.ensures (c.in-Err-bytes_at.ensures.fault w)) c.of-in-Err-bytes_at.ensures;
+      fault = git_fault (g.D.Folder.works c.args.folder.now) (world (path_buf_bytes c.args.git))
+          (path_buf_bytes c.args.git) _ _
+          (λ w. own_fault_at (world (path_buf_bytes c.args.git)) _ _ opened
+          (c.in-Err-text_of.ensures.fault (c.in-Ok.ensures.works w))) c.of-in-Err-text_of.ensures;
     }

@@ -3,8 +3,8 @@ use Rattle.index_folder.specs.World.{from_place}
 use Rattle.index_parts.specs.Id.{id_len, is_null}
 use Rattle.index_window.proofs.Endings.{null_trailer}
 use Rattle.index_window.proofs.Refused.{ends_null}
-use Rattle.index_window.proofs.disk.ends_in_null.Goals as goal
-use Rattle.index_window.proofs.disk.ends_in_null.Goals.{then-len, else-len}
+use Rattle.index_window.proofs.disk.has_null_trailer.Goals as goal
+use Rattle.index_window.proofs.disk.has_null_trailer.Goals.{then-len, else-len}
 
 pub returns-clause-null : goal.returns-clause-null
 returns-clause-null g c = λ is. elim c.if-len.branch [
