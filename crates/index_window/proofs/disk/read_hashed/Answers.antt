@@ -7,5 +7,7 @@ returns g c = record {
   hashed = digest_of_pieces c.args.kind c.args.is_held _ _ _ _ c.in_ok-pieces.ensures.pieces c.finalize.result
       c.finalize.ensures;
   bound = held_len c.args.kind c.args.is_held _ _ _ _ c.in_ok-pieces.ensures.pieces max_len c.in_ok-pieces.ensures.bound;
+  stored = c.read_pieces.ensures.stored;
+  works = c.read_pieces.ensures.works;
   fault = λ _. tt;
 }

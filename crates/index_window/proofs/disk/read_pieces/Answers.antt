@@ -11,6 +11,7 @@ pieces-init g c = record {
   len = search rules;
   counted = counts_none (g.S.Source.remaining c.args.file.now) (length c.args.bytes.now.items) c.len-len.result
       (search rules);
+  stored = refl;
   works = refl;
 }
 
@@ -27,6 +28,7 @@ pieces-preserved g c =
           c.in_ok-count.ensures.consumes
           (appended_len c.pieces.bytes.items c.append_piece.new.bytes.items count c.in_ok-count.ensures.appends
           c.in_ok-count.ensures.len);
+      stored = c.append_piece.ensures.stored ∙ c.pieces.invariant.stored;
       works = c.append_piece.ensures.works ∙ c.pieces.invariant.works;
     }
 
@@ -36,5 +38,7 @@ returns-then-count-eq0 g c = record {
       c.pieces.invariant.so_far c.in_ok-count.ensures.appends c.in_ok-count.ensures.consumes
       c.in_ok-count.ensures.len c.pass_front-passed.ensures (c.in_ok-count.ensures.end c.if-count-eq0.true);
   bound = search rules;
+  stored = c.append_piece.ensures.stored ∙ c.pieces.invariant.stored;
+  works = c.append_piece.ensures.works ∙ c.pieces.invariant.works;
   fault = λ _. tt;
 }

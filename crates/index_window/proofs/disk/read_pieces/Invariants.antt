@@ -10,6 +10,7 @@ invariant-pieces g l =
           l.hasher l.fn.bytes.items l.bytes.items l.passed l.len;
       len : l.len ≤ 2 ^ 63;
       counted : Counts (g.S.Source.remaining l.fn.file) (g.S.Source.remaining l.file) (length l.fn.bytes.items) l.len;
+      stored : g.S.Source.stored l.file ≡ g.S.Source.stored l.fn.file;
       works : g.S.Source.works l.file ≡ g.S.Source.works l.fn.file;
     }
 
