@@ -13,7 +13,7 @@ use smallvec::SmallVec;
 use std::alloc::{AllocError, Global};
 
 mod decimal;
-pub mod git_order;
+mod git_order;
 mod head;
 mod nodes;
 pub mod order;

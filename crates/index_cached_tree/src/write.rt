@@ -1,18 +1,21 @@
 //! Writing a cached tree as an extension.
 
 ghost use Rattle.std.specs.Prelude.{◌≡◌, ◌↔◌, ◌≤◌, ◌<◌, ◌^◌, ◌+◌, ◌++◌, length, take};
-ghost use Rattle.std.specs.Prelude.{◌||◌};
+ghost use Rattle.std.specs.Prelude.{◌||◌, map};
 ghost use Rattle.std.specs.List.{flat_map};
 ghost use Rattle.index_parts.specs.Puts.{Puts};
 ghost use Rattle.index_extensions.specs.Encoding.{item_bytes};
 ghost use Rattle.index_parts.specs.Numbers.{within_32};
 ghost use Rattle.index_cached_tree.specs.TreeImage.{tree_item};
-ghost use Rattle.index_cached_tree.specs.Tree.{node_of};
+ghost use Rattle.index_cached_tree.specs.GitOrder.{all_in_git_order, bytes_of_len, ordered_if};
+ghost use Rattle.index_cached_tree.specs.Tree.{node_of, nodes_from};
 ghost use Rattle.index_cached_tree.specs.TreeImage.{count_bytes, id_part, behind_name, node_head_bytes, node_bytes};
+ghost use Rattle.index_cached_tree.specs.TreeImage.{nodes_bytes};
 ghost use Rattle.index_cached_tree.specs.TreeWriting.{WritesTree, is_io, room_left};
 ghost use Rattle.index_cached_tree.specs.declared.write.Error.TheVariants.{Io};
 ghost use Rattle.index_cached_tree.specs.declared.Tree.TheViews.{out-Tree};
 
+use super::git_order::{LONG_NAME, has_len, next_len};
 use super::{SIGNATURE, Tree};
 use index_extensions::head::item_head;
 use index_parts::hash::io::Out;
@@ -103,7 +106,7 @@ fn two<'a>(a: &'a [u8], b: &'a [u8]) -> [&'a [u8]; 2]
 
 /// Writes a node without its children.
 #[tactic(auto, unfolding(crate::specs::TreeImage::node_head_bytes))]
-pub(super) fn put_node_head<W: Out>(tree: &Tree, out: &mut W) -> io::Result<()>
+fn put_node_head<W: Out>(tree: &Tree, out: &mut W) -> io::Result<()>
     ensures { Puts W.Out out.old out.new result
         (node_head_bytes (out-Tree tree.now).name.items (out-Tree tree.now).id
         (out-Tree tree.now).num_entries (length (out-Tree tree.now).children.items)) }
@@ -115,23 +118,45 @@ pub(super) fn put_node_head<W: Out>(tree: &Tree, out: &mut W) -> io::Result<()>
     out.put_each(&pieces)
 }
 
-/// Writes a node and all below it, in preorder.
+/// Writes a node and all below it, in preorder: its children as they are in the tree, or as git orders them.
 #[cycle(nodes)]
-fn put_node<W: Out>(tree: &Tree, out: &mut W) -> io::Result<()>
-    ensures { Puts W.Out out.old out.new result (node_bytes (node_of tree.now)) }
+fn put_node<W: Out>(tree: &Tree, in_git_order: bool, out: &mut W) -> io::Result<()>
+    ensures { Puts W.Out out.old out.new result
+        (node_bytes (ordered_if in_git_order (node_of tree.now))) }
 {
     put_node_head(tree, out)?;
-    put_nodes(&tree.children, out)
+    if in_git_order {
+        put_by_length(&tree.children, out)
+    } else {
+        put_nodes(&tree.children, None, out)
+    }
 }
 
-/// Writes several nodes and all below them.
+/// Writes those nodes whose names have this length, and all below them, as git orders these. Without a length it writes
+/// all nodes as they are in the tree.
 #[cycle(nodes)]
-fn put_nodes<W: Out>(trees: &[Tree], out: &mut W) -> io::Result<()>
+fn put_nodes<W: Out>(trees: &[Tree], len: Option<usize>, out: &mut W) -> io::Result<()>
     ensures { Puts W.Out out.old out.new result
-        (flat_map (λ t. node_bytes (node_of t)) trees.now) }
+        (flat_map (λ t. bytes_of_len len (node_of t)) trees.now) }
 {
     for tree in trees {
-        put_node(tree, out)?;
+        if has_len(tree, len) {
+            put_node(tree, len.is_some(), out)?;
+        }
+    }
+    Ok(())
+}
+
+/// Writes several nodes and all below them, as git orders them.
+#[cycle(nodes)]
+fn put_by_length<W: Out>(trees: &[Tree], out: &mut W) -> io::Result<()>
+    ensures { Puts W.Out out.old out.new result
+        (nodes_bytes (all_in_git_order (nodes_from (map node_of trees.now)))) }
+{
+    let mut len = next_len(trees, 0);
+    while len <= LONG_NAME {
+        put_nodes(trees, Some(len), out)?;
+        len = next_len(trees, len + 1);
     }
     Ok(())
 }
@@ -176,14 +201,18 @@ fn room_behind_all(trees: &[Tree], room: u64) -> Option<u64>
     Some(left)
 }
 
-/// Writes the tree as [`Tree::write_to`] does. Its content has this length, which [`Tree::content_len`] counts. An
-/// error comes only where the writer failed, which then took a prefix of the bytes.
-pub fn put_item<W: Out>(tree: &Tree, len: u32, out: &mut W) -> io::Result<()>
-    requires { len ≡ length (node_bytes (node_of tree.now)) }
-    ensures { Puts W.Out out.old out.new result (item_bytes (tree_item (node_of tree.now))) }
+/// Writes the tree as [`Tree::write_to`] does, its children as they are in the tree, or as git orders them. Its content
+/// has this length, which [`Tree::content_len`] counts.
+///
+/// An error comes only if the writer failed, which then took a prefix of the bytes. No memory is taken. For git's order
+/// the children of a node are passed once for each length that their names have.
+pub fn put_item<W: Out>(tree: &Tree, in_git_order: bool, len: u32, out: &mut W) -> io::Result<()>
+    requires { len ≡ length (node_bytes (ordered_if in_git_order (node_of tree.now))) }
+    ensures { Puts W.Out out.old out.new result
+        (item_bytes (tree_item (ordered_if in_git_order (node_of tree.now)))) }
 {
     out.put(&item_head(SIGNATURE, len))?;
-    put_node(tree, out)
+    put_node(tree, in_git_order, out)
 }
 
 impl Tree {
@@ -212,7 +241,7 @@ impl Tree {
         let Some(len) = self.content_len() else {
             return Err(Error::TooLarge);
         };
-        put_item(self, len, out)?;
+        put_item(self, false, len, out)?;
         Ok(())
     }
 }

@@ -1,13 +1,9 @@
 -- What a call says that writes extensions, one behind another.
-use Rattle.std.specs.Prelude.{ℕ, Bool, List, Option, Result}
+use Rattle.std.specs.Prelude.{ℕ, List, Option, Result}
 use Rattle.std.specs.List.{flat_map}
 use Rattle.index_parts.specs.Puts.{Puts}
 use Rattle.index_parts.specs.declared.hash.Kind.{Kind}
 use Rattle.index_parts.specs.declared.hash.io.Out.{Ghosts}
-use Rattle.index_cached_tree.specs.GitOrder.{ordered_if}
-use Rattle.index_cached_tree.specs.Tree.{node_of}
-use Rattle.index_cached_tree.specs.TreeImage.{tree_item}
-use Rattle.index_cached_tree.specs.declared.Tree.{Tree}
 use Rattle.index_extensions.specs.Encoding.{item_bytes}
 use Rattle.index_extensions.specs.Walk.{Item}
 use Rattle.index_extension_list.specs.Chosen.{extensions_of, item_if, items}
@@ -20,12 +16,6 @@ PutsItems writer old new answer written = Puts writer old new answer (flat_map i
 -- the bytes of an extension, where there is one
 abbrev pub PutsIf : {S T E A : Type 0} → Ghosts S → S → S → Result T E → (A → Item) → Option A → Type 0
 PutsIf writer old new answer item value = PutsItems writer old new answer (item_if item value)
-
--- ---- what is written
-
--- the bytes of a cached tree, as it stands or as git orders it
-abbrev pub ordered_tree_bytes : Bool → Tree → List ℕ
-ordered_tree_bytes in_git_order tree = item_bytes (tree_item (ordered_if in_git_order (node_of tree)))
 
 -- the bytes of all that are chosen
 abbrev pub chosen_bytes : Kind → Chosen → List ℕ

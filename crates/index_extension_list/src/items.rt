@@ -1,10 +1,8 @@
 //! Writing extensions, and the end marker behind them.
 
-ghost use Rattle.std.specs.Prelude.{◌≡◌, length};
+ghost use Rattle.std.specs.Prelude.{◌≡◌};
 ghost use Rattle.index_parts.specs.Puts.{Puts};
-ghost use Rattle.index_cached_tree.specs.GitOrder.{ordered_if};
-ghost use Rattle.index_cached_tree.specs.Tree.{node_of};
-ghost use Rattle.index_cached_tree.specs.TreeImage.{node_bytes, tree_item};
+ghost use Rattle.index_cached_tree.specs.TreeImage.{tree_item};
 ghost use Rattle.index_extension_writing.specs.MonitorImage.{monitor_item};
 ghost use Rattle.index_extension_writing.specs.ResolveUndoImage.{resolve_undo_item};
 ghost use Rattle.index_extension_writing.specs.UntrackedImage.{cache_item};
@@ -13,11 +11,10 @@ ghost use Rattle.index_extension_list.specs.Lent.{chosen_cache, chosen_cache_len
 ghost use Rattle.index_extension_list.specs.Lent.{chosen_tree, chosen_tree_len, chosen_undo, chosen_undo_len};
 ghost use Rattle.index_extension_list.specs.Listing.{AreLens};
 ghost use Rattle.index_extension_list.specs.PutsItems.{PutsIf, PutsItems, chosen_bytes};
-ghost use Rattle.index_extension_list.specs.PutsItems.{ordered_tree_bytes};
 
 use crate::{Chosen, Lens};
+use index_cached_tree::Tree;
 use index_cached_tree::write::put_item;
-use index_cached_tree::{Tree, git_order};
 use index_extension_writing::{fs_monitor, resolve_undo, untracked_cache};
 use index_extensions::sparse;
 use index_parts::hash::Kind;
@@ -26,18 +23,6 @@ use index_small_extensions::FsMonitor;
 use index_small_extensions::resolve_undo::ResolvePath;
 use index_untracked::UntrackedCache;
 use std::io;
-
-/// Writes a cached tree whose content has this length, in git's order or not.
-#[tactic(auto, using(index_cached_tree::proofs::GitOrders::same_length))]
-fn put_tree_item<W: Out>(tree: &Tree, in_git_order: bool, len: u32, out: &mut W) -> io::Result<()>
-    requires len { len ≡ length (node_bytes (ordered_if in_git_order (node_of tree.now))) }
-    ensures { Puts W.Out out.old out.new result (ordered_tree_bytes in_git_order tree.now) }
-{
-    if in_git_order {
-        return git_order::put_item(tree, len, out);
-    }
-    put_item(tree, len, out)
-}
 
 /// Writes a cached tree, where there is one, whose content has this length, in git's order or not.
 fn put_tree<W: Out>(
@@ -50,7 +35,7 @@ fn put_tree<W: Out>(
     ensures { PutsIf W.Out out.old out.new result tree_item (chosen_tree in_git_order tree.entry) }
 {
     match (tree, len) {
-        (Some(tree), Some(len)) => put_tree_item(tree, in_git_order, len, out),
+        (Some(tree), Some(len)) => put_item(tree, in_git_order, len, out),
         _ => Ok(()),
     }
 }
