@@ -17,7 +17,8 @@ use Rattle.std.proofs.lemmas.List.Quantifiers.{position-Some}
 use Rattle.std.proofs.lemmas.List.Sums.{fails_before_first}
 use Rattle.std.proofs.Math.Seq.{drop-cons}
 use Rattle.index_cached_tree.specs.Tree.{Node, name_of}
-use Rattle.index_invalidation.specs.Invalidation.{is_named, slash_of}
+use Rattle.index_invalidation.specs.Invalidation.{is_named}
+use Rattle.index_parts.specs.Path.{slash_of}
 use Rattle.index_tree_writer.specs.TreeIds.{behind}
 use Rattle.index_tree_writer.proofs.Behinds.{behind_at}
 use Rattle.index_tree_writer.proofs.PathNames.{NoSlash, first_slash}

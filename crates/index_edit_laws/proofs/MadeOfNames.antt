@@ -18,7 +18,7 @@ use Rattle.index_edits.specs.Refusals.{Check, name_fault, names_fault, names_of}
 use Rattle.index_edits.specs.declared.error.Error.TheVariants as errors
 use Rattle.index_edits.proofs.Names.{first_name, last_name}
 use Rattle.index_edits.proofs.Whys.{neither}
-use Rattle.index_invalidation.specs.Invalidation.{slash_of}
+use Rattle.index_parts.specs.Path.{slash_of}
 use Rattle.index_tree_writer.specs.Directory.{IsName}
 use Rattle.index_tree_writer.specs.Refusals.{IsTreePath, of_file, beneath}
 use Rattle.index_tree_writer.proofs.PathNames.{NoSlash}

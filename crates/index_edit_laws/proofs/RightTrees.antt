@@ -14,7 +14,8 @@ use Rattle.index_cached_tree.proofs.Storables.{apart_of_rise}
 use Rattle.index_entries.specs.Record.{Record}
 use Rattle.index_edits.specs.Changes.{applied, applied_one, path_of}
 use Rattle.index_edits.specs.declared.change.Change.{Change}
-use Rattle.index_invalidation.specs.Invalidation.{slash_of, is_named, invalidated, invalidated_below}
+use Rattle.index_invalidation.specs.Invalidation.{is_named, invalidated, invalidated_below}
+use Rattle.index_parts.specs.Path.{slash_of}
 use Rattle.index_tree_writer.specs.Kept.{HasNamesInOrder, HaveNamesInOrder}
 use Rattle.index_tree_writer.specs.Staged.{Staged}
 use Rattle.index_tree_writer.specs.TreeIds.{AreRight, Gives, IsMadeOf, IsRight, IsWholeDirectory, Spot}

@@ -11,7 +11,8 @@ use Rattle.index_cached_tree.specs.Tree.{Node, Nodes, node, none, more, name_of}
 use Rattle.index_cached_tree.proofs.Sorted.{names_total}
 use Rattle.index_edits.specs.Changes.{path_of}
 use Rattle.index_edits.specs.declared.change.Change.{Change}
-use Rattle.index_invalidation.specs.Invalidation.{slash_of, is_named, invalidated, invalidated_below}
+use Rattle.index_invalidation.specs.Invalidation.{is_named, invalidated, invalidated_below}
+use Rattle.index_parts.specs.Path.{slash_of}
 use Rattle.index_tree_writer.specs.Kept.{HasNamesInOrder, HaveNamesInOrder}
 use Rattle.index_updates.specs.Invalidated.{all_invalidated}
 

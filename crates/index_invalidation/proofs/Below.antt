@@ -3,7 +3,8 @@ use Rattle.std.proofs.Common.{ℕ, ◌+◌, true, false, List, Option, Some, Non
 use Rattle.std.specs.Prelude.{take, drop}
 use Rattle.index_cached_tree.specs.Sound.{CountsAtMost, CountAtMost}
 use Rattle.index_cached_tree.specs.Tree.{Node, Nodes, node, none, more}
-use Rattle.index_invalidation.specs.Invalidation.{slash_of, is_named, invalidated, invalidated_below}
+use Rattle.index_invalidation.specs.Invalidation.{is_named, invalidated, invalidated_below}
+use Rattle.index_parts.specs.Path.{slash_of}
 
 mutual
   -- where no node counts more than so many entries, none does afterwards

@@ -9,7 +9,8 @@ use Rattle.index_cached_tree.specs.StorableSteps.{AreApart, AreStorableWithin, I
 use Rattle.index_cached_tree.specs.StoredTree.{IsApartFrom, IsStorableTree}
 use Rattle.index_cached_tree.specs.Tree.{Node, Nodes, node, none, more, how_many_nodes, name_of}
 use Rattle.index_cached_tree.proofs.Storables.{of_storable, storable_of}
-use Rattle.index_invalidation.specs.Invalidation.{slash_of, is_named, invalidated, invalidated_below}
+use Rattle.index_invalidation.specs.Invalidation.{is_named, invalidated, invalidated_below}
+use Rattle.index_parts.specs.Path.{slash_of}
 
 -- ---- a null id
 

@@ -1,14 +1,11 @@
 -- What an edit of a path makes untrue in a cached tree (gitformat-index, "Cache tree": an entry that is invalidated has
 -- a negative number of entries, and no object name). Each definition speaks of children in any order.
-use Rattle.std.specs.Prelude.{ℕ, ◌+◌, ◌==◌, Bool, List, Option, Some, None, take, drop, position, if◌then◌else◌}
+use Rattle.std.specs.Prelude.{ℕ, ◌+◌, Bool, List, Option, Some, None, take, drop, if◌then◌else◌}
 use Rattle.std.specs.Cmp.Lexicographic.{slice_cmp}
 use Rattle.std.specs.Ordering.{nat_cmp, is_eq}
 use Rattle.index_parts.specs.Id.{id_kind, null_id}
+use Rattle.index_parts.specs.Path.{slash_of}
 use Rattle.index_cached_tree.specs.Tree.{Node, Nodes, node, none, more, name_of}
-
--- where the first slash of a path stands
-abbrev pub slash_of : List ℕ → Option ℕ
-slash_of path = position (λ b. b == 47) path
 
 -- the node has this name
 abbrev pub is_named : List ℕ → Node → Bool

@@ -1,22 +1,25 @@
 //! What an edit of a path makes untrue in a cached tree (gitformat-index, "Cache tree").
 #![tactic(auto)]
 
-ghost use Rattle.std.specs.Prelude.{◌≡◌, ℕ, ◌<◌, All, None, false, length, map, position, IfSome, IsNone};
+ghost use Rattle.std.specs.Prelude.{◌≡◌, ℕ, All, None, false, map, position, IsNone};
 ghost use Rattle.index_cached_tree.specs.Sound.{CountsAtMost};
 ghost use Rattle.index_cached_tree.specs.StoredTree.{IsStorableTree};
 ghost use Rattle.index_cached_tree.specs.Tree.{node_of, nodes_from};
 ghost use Rattle.index_cached_tree.specs.declared.Tree.TheViews.{out-Tree};
 ghost use Rattle.index_parts.specs.Id.{id_kind, null_id};
+ghost use Rattle.index_parts.specs.Path.{slash_of};
 ghost use Rattle.index_parts.specs.declared.hash.Kind.{Kind};
-ghost use Rattle.index_invalidation.specs.Invalidation.{invalidated, invalidated_below, is_named, slash_of};
+ghost use Rattle.index_invalidation.specs.Invalidation.{invalidated, invalidated_below, is_named};
 
 use index_cached_tree::Tree;
+use index_cached_tree::order::compare_to;
+use index_parts::path::slash_of;
 
 /// Whether the node has the name.
 fn has_name(tree: &Tree, name: &[u8]) -> bool
     ensures { result ≡ is_named name.now (node_of tree.now) }
 {
-    tree.name.as_slice().cmp(&name).is_eq()
+    compare_to(tree, name).is_eq()
 }
 
 /// Where the first of these with the name stands, by the bytes of names; None where none has it.
@@ -39,14 +42,6 @@ fn clear(tree: &mut Tree)
 {
     tree.id = tree.id.kind().null();
     tree.num_entries = None;
-}
-
-/// Where the first slash of a path stands.
-fn slash_of(path: &[u8]) -> Option<usize>
-    ensures value { result ≡ slash_of path.now }
-    ensures inside { IfSome result (λ k. k < length path.now) }
-{
-    path.iter().position(|byte| *byte == b'/')
 }
 
 /// Invalidates a path below a node with these children.

@@ -5,5 +5,6 @@ pub mod block;
 mod bytes;
 pub mod encode;
 pub mod hash;
+pub mod path;
 pub mod read;
 pub mod util;

@@ -1,6 +1,6 @@
 //! What an edit of a path makes untrue in an untracked cache (gitformat-index, "Untracked cache").
 
-ghost use Rattle.std.specs.Prelude.{◌≡◌, ◌==◌, ◌<◌, All, false, length, map, position, IfSome, IsNone};
+ghost use Rattle.std.specs.Prelude.{◌≡◌, map};
 ghost use Rattle.std.specs.Prelude.{if◌then◌else◌};
 ghost use Rattle.index_parts.specs.declared.hash.Kind.{Kind};
 ghost use Rattle.index_untracked.specs.BitmapSteps.{changed_directory};
@@ -10,6 +10,7 @@ ghost use Rattle.index_untracked.specs.UntrackedEdits.{invalidated_from, is_name
 ghost use Rattle.index_untracked.specs.UntrackedEdits.{tells_directories, unlisted};
 
 use super::{Directory, UntrackedCache};
+use index_parts::path::slash_of;
 
 /// A directory in which all is untracked is told as a whole.
 const SHOW_OTHER_DIRECTORIES: u32 = 1 << 1;
@@ -19,15 +20,6 @@ fn tells_directories(flags: u32) -> bool
     ensures { result ≡ tells_directories flags }
 {
     flags & SHOW_OTHER_DIRECTORIES != 0
-}
-
-/// Where the first slash of a path stands.
-fn slash_of(path: &[u8]) -> Option<usize>
-    ensures value { result ≡ position (λ b. b == 47) path.now }
-    ensures inside { IfSome result (λ k. k < length path.now) }
-    ensures none { IsNone result → All (λ b. (b == 47) ≡ false) path.now }
-{
-    path.iter().position(|byte| *byte == b'/')
 }
 
 /// Whether there is a directory of this name at a place.

@@ -9,7 +9,8 @@ use Rattle.index_cached_tree.specs.declared.Tree.TheOpen.{Tree-F}
 use Rattle.index_cached_tree.specs.declared.Tree.TheViews.{out-Tree}
 use Rattle.index_cached_tree.proofs.Spelled.{node_of-out, node_of-roll}
 use Rattle.index_parts.specs.Id.{id_kind, null_id}
-use Rattle.index_invalidation.specs.Invalidation.{invalidated, invalidated_below, is_named, slash_of}
+use Rattle.index_invalidation.specs.Invalidation.{invalidated, invalidated_below, is_named}
+use Rattle.index_parts.specs.Path.{slash_of}
 use Rattle.index_invalidation.proofs.Below.{counts_stay}
 use Rattle.index_invalidation.proofs.Places.{changed, gone, none_changed, none_gone, same_node}
 use Rattle.index_invalidation.proofs.StorableTrees.{storable_stays}
