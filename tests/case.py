@@ -28,7 +28,7 @@ class Case(unittest.TestCase):
                 raise self.failureException(what)
 
     def hold_all(self, found, front=""):
-        """The same of several checks, each with what isn't so; all of them are of what the front names."""
+        """Counts several checks, each with a text for its failure. The front is put before each text."""
         for what, holds in found:
             self.hold(f"{front}{what}", holds)
 

@@ -417,7 +417,7 @@ class Pipe(Commands):
         return done, [(path.name, path.read_bytes()) for path in self.folder.glob("piped.index*")]
 
     def piped(self, data, command, *more):
-        """The same of these bytes, through a pipe."""
+        """Checks these bytes again, through a pipe."""
         pipe = self.folder / "pipe.index"
         os.mkfifo(pipe)
         threading.Thread(target=pipe.write_bytes, args=(data,), daemon=True).start()

@@ -20,7 +20,7 @@ def file_of(kind, length):
 
 
 def damaged(data, length):
-    """The same file with one byte of the content changed, where it has one."""
+    """Returns the file with one byte of the content changed, if it has any."""
     place = 20 + length * length % max(length, 1)
     return data[:place] + bytes([data[place] ^ 1]) + data[place + 1 :]
 

@@ -200,7 +200,7 @@ class Workspace:
     # ---- paths of sources
 
     def enter(self, node, name):
-        """The same as `step` for a path of sources."""
+        """Does what `step` does, for a path in sources."""
         if node is None:
             return None, None
         if node[0] == "type":
