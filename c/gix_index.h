@@ -1,18 +1,20 @@
-/* The git index for C: tables of its entries, read from the bytes of an index file and written as such or as trees, and
- * changes of an index, as rows of such a table.
+/* SPDX-License-Identifier: MIT OR Apache-2.0 */
+/* The git index for C. Calls read the bytes of an index file into a table of its entries. They write a table as an
+ * index or as tree objects. They change an index; each change is a row of such a table.
  *
- * Link libindex_c.a, and behind it liblibc_c.a (malloc, realloc and free), as gix_index.pc says.
+ * Link libgix_index.so or libgix_index.a, as gix_index.pc describes. Both use malloc, realloc and free of the C
+ * library.
  *
- * Memory. What a call reads and writes is the caller's. A pointer goes with a length, counts elements of its type,
- * and has to be valid for all of them during the call, and aligned as its type is. With a length of 0 it may be NULL,
- * and is never followed; a pointer without a length may not be NULL. What a call writes may not overlap anything else
- * that it is given. Calls take memory by malloc and give all of it back before they return: there is no handle and
+ * Memory. All memory that a call reads or writes is owned by the caller. A pointer has a length that counts elements of
+ * its type. It has to be valid for all of them during the call, and aligned as its type requires. With a length of 0 it
+ * may be NULL, and is never followed. A pointer without a length may not be NULL. Memory that a call writes may not
+ * overlap any other argument. Calls allocate with malloc and free all of it before they return. There is no handle and
  * nothing to free.
  *
- * Threads. Calls share nothing. Any number of them may run at once over memory of their own, and may read the same
- * memory. None may be made in a signal handler, nor in the child that a process with threads has forked.
+ * Threads. Calls share nothing. Any number of them may run at the same time on memory of their own, and may read the
+ * same memory. No call may be made in a signal handler, or in a child that a process with threads has forked.
  *
- * A bool is 0 or 1. Ids are bytes, and not base 16. Paths are bytes without a NUL at their end, and with slashes. The
+ * A bool is 0 or 1. Ids are bytes, not base 16. Paths are bytes with slashes and without a NUL at their end. The
  * standard is git's document gitformat-index. The language is C since C99, or C++ since C++98. */
 #ifndef GIX_INDEX_H
 #define GIX_INDEX_H
@@ -27,13 +29,14 @@
 extern "C" {
 #endif
 
-/* ---- The version of the library, which is that of the crate gix-index that it ports */
+/* ---- The version of the library, and that of the crate gix-index that it ports */
 
-#define GIX_INDEX_VERSION "0.55.0"
-#define GIX_INDEX_VERSION_MAJOR 0
-#define GIX_INDEX_VERSION_MINOR 55
+#define GIX_INDEX_VERSION "1.0.0"
+#define GIX_INDEX_VERSION_MAJOR 1
+#define GIX_INDEX_VERSION_MINOR 0
 #define GIX_INDEX_VERSION_PATCH 0
-#define GIX_INDEX_VERSION_NUMBER 0x003700u /* the three, a byte each */
+#define GIX_INDEX_VERSION_NUMBER 0x010000u /* the three, a byte each */
+#define GIX_INDEX_UPSTREAM_VERSION "0.55.0"
 
 /* ---- Statuses: what a call answers */
 
@@ -87,7 +90,7 @@ extern "C" {
 #define GIX_INDEX_FAULT_LINK 6u      /* the link to a shared index is at fault */
 #define GIX_INDEX_FAULT_TRAILER 7u   /* the bytes behind all entries and extensions aren't as many as the trailer has */
 #define GIX_INDEX_FAULT_DIGEST 8u    /* the digest isn't the trailer: damaged, of the other kind, or no index */
-/* (9 is a fault of files, which no call of these opens) */
+/* (9 is an error of files; no call of this header opens one) */
 #define GIX_INDEX_FAULT_ORDER 10u       /* calls that check, write, update or give trees: the entry at the place isn't
                                          * above the one before it */
 #define GIX_INDEX_FAULT_CACHED_TREE 11u /* calls that check alone: the cached tree doesn't hold together, or counts more
@@ -108,7 +111,7 @@ extern "C" {
 
 /* ---- Tables */
 
-/* An entry. Its path is the bytes of the table's paths from path_start on, path_len of them; two may share some. */
+/* An entry. Its path is path_len bytes of the table's paths, from path_start on. Two paths may share bytes. */
 typedef struct {
     uint32_t ctime_secs; /* when the file's own data changed last, in seconds since the begin of 1970 */
     uint32_t ctime_nsecs;
@@ -128,8 +131,9 @@ typedef struct {
     size_t path_len;
 } gix_index_row;
 
-/* What a call that reads says beside its status. It is written with each status; what isn't named there is 0. With the
- * faults ORDER and CACHED_TREE the bytes were read, and entries, version, has_link and shared_id are as with DONE. */
+/* What a call that reads returns in addition to its status. It is written with each status. For each field, the comment
+ * lists the statuses with which it has a value; with others it is 0. With the faults ORDER and CACHED_TREE the bytes
+ * were read, and entries, version, has_link and shared_id are as with DONE. */
 typedef struct {
     size_t entries;     /* DONE, NO_ROOM: how many entries the index has, and so how many rows it takes */
     size_t path_bytes;  /* DONE, NO_ROOM: how many bytes all paths have together, and so how many for paths it takes;
@@ -143,20 +147,22 @@ typedef struct {
     uint8_t shared_id[32]; /* DONE, NO_ROOM: with has_link the shared index's id, as a row has one, or zeros for none */
 } gix_index_summary;
 
-/* Rows of a table by their places, counted from 0: those from start up to end, without this one. */
+/* A range of rows of a table: their indices, counted from 0, from start up to end. The row at end isn't in the
+ * range. */
 typedef struct {
     size_t start;
     size_t end;
 } gix_index_places;
 
-/* How calls that write are to write. */
+/* The options of calls that write. */
 typedef struct {
     uint32_t kind;    /* of the ids and of the digest, as each row has it */
     uint32_t version; /* 4; or 2 or 3, which both ask for 3 where a row has GIX_INDEX_EXTENDED, and else for 2 */
     bool skip_hash;   /* zeros in place of the digest, as git's index.skipHash asks */
 } gix_index_form;
 
-/* What calls that write say beside their status. It is written with each status; what isn't named there is 0. */
+/* What a call that writes returns in addition to its status. It is written with each status. For each field, the
+ * comment lists the statuses with which it has a value; with others it is 0. */
 typedef struct {
     size_t bytes;       /* DONE, NO_ROOM: how many bytes the index has */
     size_t fault_place; /* REFUSED: the place that the fault names, or 0 */
@@ -168,14 +174,15 @@ typedef struct {
     uint32_t of_shared; /* gix_index_update, REFUSED, MEMORY: 1 where that is of the shared index's bytes; else 0 */
 } gix_index_written;
 
-/* A tree: its id, and where its bytes stand among those of all. */
+/* A tree: its id, and the range of its bytes in the bytes of all trees. */
 typedef struct {
     uint8_t id[32]; /* zeros behind the 20 bytes of SHA-1 */
     size_t start;
     size_t len;
 } gix_index_tree;
 
-/* What gix_index_trees says beside its status. It is written with each status; what isn't named there is 0. */
+/* What gix_index_trees returns in addition to its status. It is written with each status. For each field, the comment
+ * lists the statuses with which it has a value; with others it is 0. */
 typedef struct {
     size_t trees;       /* DONE, NO_ROOM: how many trees there are */
     size_t bytes;       /* DONE, NO_ROOM: how many bytes they have together */
@@ -183,7 +190,7 @@ typedef struct {
     uint32_t fault;     /* REFUSED: ROW, MODE, ORDER, UNMERGED, NAME, BELOW, COUNT */
 } gix_index_given;
 
-/* What of a stat is compared, as git has it (git-config, "core.trustctime" and "core.checkStat"). */
+/* Which numbers of a stat are compared, as in git (git-config, "core.trustctime" and "core.checkStat"). */
 typedef struct {
     bool trust_ctime; /* the ctime too */
     bool check_stat;  /* inode, owner and group too */
@@ -191,10 +198,10 @@ typedef struct {
     bool use_stdev;   /* with check_stat, the device too */
 } gix_index_comparison;
 
-/* What git compares where nothing else is configured: gix_index_comparison by_default = GIX_INDEX_COMPARISON; */
+/* What git compares by default: gix_index_comparison by_default = GIX_INDEX_COMPARISON; */
 #define GIX_INDEX_COMPARISON {true, true, false, false}
 
-/* What is seen of a file in the work tree, and what its file system can hold (git-config, "core.symlinks" and
+/* What is seen of a file in the work tree, and what its file system supports (git-config, "core.symlinks" and
  * "core.fileMode"). */
 typedef struct {
     bool is_file;
@@ -207,227 +214,276 @@ typedef struct {
 
 /* ---- Calls */
 
-/* The version of the library that is linked, as GIX_INDEX_VERSION_NUMBER has that of this header. Rows and the structs
- * here may grow with the minor version: a caller that finds another one doesn't call the rest. */
+/* Returns the version of the library that is linked, in the form of GIX_INDEX_VERSION_NUMBER. Each library with the
+ * same major version and at least this minor version has the calls and structs of this header. */
 uint32_t gix_index_version(void);
 
 /* Reads an index from all bytes of its file.
  *
- * The digest of all bytes but the trailer is compared with the trailer, unless that is zeros or skip_hash is set. Of
- * a split index only its own entries are read, some of them with an empty path.
+ * The digest of all bytes before the trailer is compared with the trailer, unless the trailer is zeros or skip_hash is
+ * set. Of a split index only its own entries are read, some of them with an empty path.
  *
- * DONE: the first entries of rows and the first path_bytes of paths are the table, in the order of the file.
- * REFUSED: text has what is wrong, in words, as far as there is room, without a NUL behind it.
- * NO_ROOM: the same call with the sizes of the summary has room. So a call with both lengths 0, and NULL for rows and
- * paths, asks for the sizes; an index without entries is DONE then.
- * WRONG_NUMBER: kind is none.
- * With each status but DONE, rows and paths are as they were; with DONE, what lies behind the table is. Of text no
- * byte is written behind text_bytes. */
+ * - DONE: the table is the first entries of rows and the first path_bytes of paths, in the order of the file. The rest
+ *   of rows and paths is unchanged.
+ * - REFUSED: text has a message, as far as it fits, without a NUL at its end.
+ * - NO_ROOM: the call would succeed with the sizes of the summary. So a call with both lengths 0, and NULL for rows and
+ *   paths, returns the sizes. For an index without entries it returns DONE.
+ * - MEMORY: malloc or realloc failed.
+ * - WRONG_NUMBER: kind isn't valid.
+ *
+ * With each status other than DONE, rows and paths are unchanged. No byte of text after text_bytes is written. */
 uint32_t gix_index_read(const uint8_t *bytes, size_t bytes_len, uint32_t kind, bool skip_hash, gix_index_row *rows,
                         size_t rows_len, uint8_t *paths, size_t paths_len, uint8_t *text, size_t text_len,
                         gix_index_summary *summary);
 
-/* Reads an index with the shared index that it links to, each from all bytes of its file: sharedindex.ID beside the
- * index, where ID is the summary's shared_id in lower-case base 16, as gix_index_read tells it with has_link.
+/* Reads an index with the shared index that it links to, each from all bytes of its file. The shared index is the file
+ * sharedindex.ID in the directory of the index. ID is the summary's shared_id in lower-case base 16, as gix_index_read
+ * returns it with has_link.
  *
- * Both are read as gix_index_read reads bytes. Where there is no link, or its id is zeros, shared isn't looked at, and
- * its length may be 0. Else the trailer of shared has to be the id, or zeros, and the table has the entries of both,
- * as the link joins them. With DONE and NO_ROOM has_link is 0, as the table lacks nothing; entries and path_bytes are
- * those of both, and the version is that of bytes.
+ * Both are read as by gix_index_read. If there is no link, or its id is zeros, shared isn't read, and its length may be
+ * 0. Otherwise the trailer of shared has to be the id, or zeros. The table has the entries of both, as the link joins
+ * them. With DONE and NO_ROOM has_link is 0, because the table is complete. entries and path_bytes are those of both,
+ * and version is that of bytes.
  *
- * REFUSED: the fault is one that gix_index_read tells, with of_shared one of shared; or LINK, and the two don't fit. A
- * shared index of another id is DIGEST, with of_shared. All else is as there. */
+ * REFUSED: the fault is one of gix_index_read, with of_shared if it is in shared; or LINK, if the two don't match. A
+ * shared index with another id is DIGEST, with of_shared. All other results are as for gix_index_read. */
 uint32_t gix_index_read_split(const uint8_t *bytes, size_t bytes_len, const uint8_t *shared, size_t shared_len,
                               uint32_t kind, bool skip_hash, gix_index_row *rows, size_t rows_len, uint8_t *paths,
                               size_t paths_len, uint8_t *text, size_t text_len, gix_index_summary *summary);
 
-/* Checks an index, given as all bytes of its file: the bytes are read as gix_index_read reads them; the entries have
- * to increase strictly by path, byte by byte, and then by stage, as the calls below take them; and the cached tree,
- * where there is one, has to hold together and to count no more entries than there are. Objects aren't looked at. Of
- * a split index only its own entries are checked; those that have an empty path are out of order where they are more
- * than one, and has_link tells of it.
+/* Checks an index, given as all bytes of its file. The bytes are read as by gix_index_read, and then these are checked:
  *
- * DONE: all of it is so. REFUSED: the fault is one that gix_index_read tells; or ORDER, and the place is the first
- * entry that isn't above the one before it; or CACHED_TREE, and the entries are in order. The text has it in words,
- * as there; it is empty where there was no memory for the words. MEMORY: malloc or realloc gave nothing, maybe for
- * the names of a fault. WRONG_NUMBER: kind is none. Of text no byte is written behind text_bytes. NO_ROOM isn't
- * answered. */
+ * - The entries increase strictly by path, byte by byte, and then by stage, as the calls below require.
+ * - The cached tree, if there is one, is consistent and counts no more entries than there are.
+ *
+ * Objects aren't read. Of a split index only its own entries are checked. More than one entry with an empty path is out
+ * of order then, and has_link is set.
+ *
+ * - DONE: the check passes.
+ * - REFUSED: the fault is one of gix_index_read. ORDER: fault_place is the first entry that isn't greater than the one
+ *   before it. CACHED_TREE: the entries are in order. The text is a message, as for gix_index_read. It is empty if
+ *   there was no memory for it.
+ * - MEMORY: malloc or realloc failed, possibly for the names in a message.
+ * - WRONG_NUMBER: kind isn't valid.
+ *
+ * NO_ROOM isn't returned. No byte of text after text_bytes is written. */
 uint32_t gix_index_check(const uint8_t *bytes, size_t bytes_len, uint32_t kind, bool skip_hash, uint8_t *text,
                          size_t text_len, gix_index_summary *summary);
 
 /* Checks an index with the shared index that it links to, each given as all bytes of its file, as `index-tool check`
- * does: both are read and joined as gix_index_read_split does it, and what comes of it is checked as gix_index_check
- * checks an index. Where there is no link, or its id is zeros, shared isn't looked at, and its length may be 0. With
- * DONE and the faults ORDER and CACHED_TREE has_link is 0, and entries are those of both.
+ * does. Both are read and joined as by gix_index_read_split, and the result is checked as by gix_index_check. If there
+ * is no link, or its id is zeros, shared isn't read, and its length may be 0. With DONE and the faults ORDER and
+ * CACHED_TREE has_link is 0, and entries counts those of both.
  *
- * DONE: all of it is so. REFUSED: the fault is one that gix_index_read_split tells; or ORDER, and the place is that of
- * the first entry of both that isn't above the one before it; or CACHED_TREE, and the entries of both are in order. All
- * else is as there.
+ * - DONE: the check passes.
+ * - REFUSED: the fault is one of gix_index_read_split. ORDER: fault_place is the first entry of both that isn't greater
+ *   than the one before it. CACHED_TREE: the entries of both are in order.
  *
- * gix_index_table.h checks a path with its link followed. */
+ * All other results are as for gix_index_check. gix_index_table.h checks the index at a path and follows its link. */
 uint32_t gix_index_check_split(const uint8_t *bytes, size_t bytes_len, const uint8_t *shared, size_t shared_len,
                                uint32_t kind, bool skip_hash, uint8_t *text, size_t text_len,
                                gix_index_summary *summary);
 
-/* The place of the row with this path and this stage, counted from 0, or rows_len where there is none.
+/* Returns the index of the row with this path and this stage, counted from 0, or rows_len if there is none.
  *
- * It takes rows that strictly increase by path, byte by byte, and then by stage, as those of a sound index do
- * (gix_index_check says whether an index's do). Among other rows a place that is given still has the path and the
- * stage. The stages are those of the flags. A path that passes the end of paths is cut there. No memory is taken. */
+ * The rows have to increase strictly by path, byte by byte, and then by stage, as those of a valid index do
+ * (gix_index_check checks this). For other rows, a returned index below rows_len is still that of a row with the path
+ * and the stage. The stages are those of the flags. A path that exceeds the end of paths is cut there. No memory is
+ * allocated. */
 size_t gix_index_find(const gix_index_row *rows, size_t rows_len, const uint8_t *paths, size_t paths_len,
                       const uint8_t *path, size_t path_len, uint32_t stage);
 
-/* The place that a row with this path and this stage has, or would be put at so that the rows stay in order: how many
- * rows stand before both. It is rows_len where all do.
+/* Returns the index at which a row with this path and this stage is, or would be inserted so that the rows stay in
+ * order. This is the number of rows that are less than both. It is rows_len if all are.
  *
- * It takes the rows that gix_index_find takes. Among other rows it is a place up to rows_len, and no more is promised.
- * Paths are cut as there, and no memory is taken. */
+ * The rows have to be in order as for gix_index_find. For other rows the result is at most rows_len, and nothing else
+ * is guaranteed. Paths are cut as there, and no memory is allocated. */
 size_t gix_index_lower_bound(const gix_index_row *rows, size_t rows_len, const uint8_t *paths, size_t paths_len,
                              const uint8_t *path, size_t path_len, uint32_t stage);
 
-/* The places of the rows whose path begins with the bytes of the prefix. The empty prefix has all rows, also of a table
- * without any: 0 up to 0, and DONE.
+/* Finds the rows whose path begins with the bytes of the prefix. The empty prefix finds all rows, also in a table
+ * without rows: the range is 0 up to 0, and the status is DONE.
  *
- * It takes rows whose paths never fall, and so those that gix_index_find takes: there they are all such rows. Among
- * other rows places that are given still lie in the table, and no more is promised. Paths are cut as there, and no
- * memory is taken.
+ * The paths of the rows have to be in order, as those for gix_index_find are. Then the range has all such rows. For
+ * other rows the range is still in the table, and nothing else is guaranteed. Paths are cut as there, and no memory is
+ * allocated.
  *
- * DONE: places is written. NONE: no path begins so, and places is as it was. */
+ * - DONE: places is written.
+ * - NONE: no path begins with the prefix, and places is unchanged. */
 uint32_t gix_index_find_prefix(const gix_index_row *rows, size_t rows_len, const uint8_t *paths, size_t paths_len,
                                const uint8_t *prefix, size_t prefix_len, gix_index_places *places);
 
-/* The place of the row that is closest to a directory, counted from 0, or rows_len where there is none. The
+/* Returns the index of the row that is closest to a directory, counted from 0, or rows_len if there is none. The
  * directory is a path without a slash at its end.
  *
- * Where rows have the directory's path, it is the first of them that is a directory by its mode, one of a sparse
- * index or a submodule; a file there has none below it. Else it is the first row below: its path goes on behind the
- * directory and a slash. So there is a row exactly where the path is a directory.
+ * If rows have the directory's path, the result is the first of them whose mode is that of a directory of a sparse
+ * index or a submodule. A file with this path has no row below it. Otherwise the result is the first row below the
+ * directory: its path begins with the directory and a slash. So there is a row exactly if the path is a directory.
  *
- * It takes the same rows as gix_index_find_prefix. Among other rows a place that is given still is the directory or
- * stands below it. Paths are cut as there, and no memory is taken. */
+ * The rows have to be in order as for gix_index_find_prefix. For other rows, a returned row still is the directory or
+ * is below it. Paths are cut as there, and no memory is allocated. */
 size_t gix_index_closest(const gix_index_row *rows, size_t rows_len, const uint8_t *paths, size_t paths_len,
                          const uint8_t *directory, size_t directory_len);
 
-/* The place of the first row that is a directory or stands below it, counted from 0, or rows_len where there is none,
- * with the case of ASCII letters ignored: one whose path is the directory's and that is a directory by its mode, or one
- * whose path goes on behind the directory and a slash.
+/* Returns the index of the first row that is a directory or is below it, counted from 0, or rows_len if there is none.
+ * The case of ASCII letters is ignored. Either the row's path is the directory's and its mode is that of a directory,
+ * or its path begins with the directory and a slash.
  *
- * It takes rows in any order, and looks at each up to that one. Paths are cut as there, and no memory is taken. */
+ * The rows may be in any order, and each up to the result is compared. Paths are cut as there, and no memory is
+ * allocated. */
 size_t gix_index_closest_icase(const gix_index_row *rows, size_t rows_len, const uint8_t *paths, size_t paths_len,
                                const uint8_t *directory, size_t directory_len);
 
-/* Whether two rows have the stat of the same unchanged file: mostly one of an index, and one that gix_index_set_stat of
- * gix_index_file.h has put what is seen of the file into. The time of the last change and the size are compared always,
- * the rest where the comparison has it. Where they match, the file may have changed all the same if the row is racy. */
+/* Returns whether two rows have the stat of the same unchanged file. Usually one is a row of an index, and the other
+ * has the stat that gix_index_set_stat of gix_index_file.h stored. The time of the last change and the size are always
+ * compared. The rest is compared as the comparison selects. If the rows match, the file may still have changed if the
+ * row is racy. */
 bool gix_index_matches(const gix_index_row *row, const gix_index_row *seen, const gix_index_comparison *comparison);
 
-/* Whether the file of a row may have changed when its index was written, at this time since the begin of 1970, or
- * later: so its stat proves nothing, and only its contents tell. The file was last changed no earlier, by nanoseconds
- * where these count. It may have where nsecs is a second or more, as that is no time. */
+/* Returns whether the file of a row may have changed when its index was written or later. Its stat proves nothing then,
+ * and its contents have to be compared. secs and nsecs are the time at which the index was written, since the begin of
+ * 1970. The result is true if the file was last changed no earlier; nanoseconds are compared if the comparison selects
+ * them. It is also true if nsecs is a second or more, which is no time. */
 bool gix_index_is_racy(const gix_index_row *row, int64_t secs, uint32_t nsecs, const gix_index_comparison *comparison);
 
-/* The mode that a row of this mode takes to be that of what is seen at its path; the same where it fits. A file whose
- * bit for execution changed gets the other of the two modes of files, and what is of another kind the mode of what is
- * seen. Where the file system has no links, a file at the path of a link is taken for one, and so is a bit for
- * execution for the row's where the file system has none. */
+/* Returns the mode that a row with this mode has to get to match what is seen at its path. It is the same mode if they
+ * match already.
+ *
+ * - If the bit for execution of a file changed, the result is the other of the two modes of files.
+ * - If another type is seen, the result is the mode of what is seen.
+ * - If the file system has no links, a file at the path of a link counts as the link.
+ * - If the file system has no bit for execution, the row's bit is used. */
 uint32_t gix_index_mode_for(uint32_t mode, const gix_index_seen *seen);
 
-/* The id that git has for a file of these bytes, as `git hash-object --stdin` prints it: 32 bytes, with zeros behind
- * the 20 of SHA-1. What filters and line ends make of a file in the work tree is the caller's.
+/* Computes the id that git has for a file with these bytes, as `git hash-object --stdin` prints it. It is 32 bytes,
+ * with zeros after the 20 bytes of SHA-1. The caller applies filters and line ends to a file of the work tree.
  *
- * DONE: id is written. WRONG_NUMBER: kind is none, and id is as it was. No memory is taken. */
+ * - DONE: id is written.
+ * - WRONG_NUMBER: kind isn't valid, and id is unchanged.
+ *
+ * No memory is allocated. */
 uint32_t gix_index_blob_id(uint32_t kind, const uint8_t *bytes, size_t bytes_len, uint8_t id[32]);
 
-/* Writes a table as all bytes of an index: header, entries, no extension, and the digest behind them. What is written
- * is read again as the same rows, but for those with GIX_INDEX_REMOVE, which are passed over as if they weren't there,
- * whatever else they have; and for bits of the flags that live in memory alone.
+/* Writes a table as all bytes of an index: the header, the entries, no extension, and the digest. Reading these bytes
+ * gives the same rows, except:
  *
- * It takes rows that strictly increase by path, byte by byte, and then by stage. Each has the kind of the form, and the
- * stage of its flags; its path lies among paths, and has bytes, and no NUL; its mode is one of the five above, but not
- * GIX_INDEX_DIRECTORY, as the mark of a sparse index is an extension. Rows may come from anywhere: paths may lie in any
- * order, with others between them. Of an id of SHA-1 the first 20 bytes count. A table whose summary has has_link lacks
- * the shared entries, and shouldn't be written; one of gix_index_read_split may be.
+ * - Rows with GIX_INDEX_REMOVE are skipped, whatever else they have.
+ * - Bits of the flags that are only in memory are lost.
  *
- * DONE: the first told->bytes of bytes are the index. NO_ROOM: the same call with as many bytes as are told has room;
- * so a call with NULL and the length 0 asks for it. REFUSED: the place is the first row that isn't such, and the fault
- * is MODE where its mode is none of the five, else ROW; or it is ORDER, and all are such, and the place is the first
- * that isn't above the one before it, those that are passed over left aside; or COUNT, or LENGTH. MEMORY: malloc or
- * realloc gave nothing, and the rows are such and in order. WRONG_NUMBER: the form's kind or version is none. With each
- * status but DONE bytes is as it was; with DONE, what lies behind the index is.
+ * The rows have to meet these conditions:
  *
- * gix_index_file.h reads a path with its link followed, and writes a table to one, by way of a lock. */
+ * - They increase strictly by path, byte by byte, and then by stage.
+ * - Each has the kind of the form, and the stage of its flags.
+ * - Its path is in paths, isn't empty, and has no NUL. Paths may be in any order, with other bytes between them.
+ * - Its mode is one of the five above other than GIX_INDEX_DIRECTORY. The mark of a sparse index is an extension.
+ *
+ * Of an id of SHA-1 only the first 20 bytes are used. A table whose summary has has_link lacks the shared entries, and
+ * shouldn't be written. A table of gix_index_read_split may be.
+ *
+ * - DONE: the index is the first told->bytes of bytes. The rest of bytes is unchanged.
+ * - NO_ROOM: the call would succeed with told->bytes bytes. So a call with NULL and the length 0 returns this size.
+ * - REFUSED: MODE, if fault_place is the first row that doesn't meet the conditions and its mode is none of the five.
+ *   ROW, if it is the first such row for another reason. ORDER, if all rows meet the conditions other than order, and
+ *   fault_place is the first one, without skipped rows, that isn't greater than the one before it. Otherwise COUNT or
+ *   LENGTH.
+ * - MEMORY: malloc or realloc failed. The rows meet the conditions and are in order.
+ * - WRONG_NUMBER: the kind or the version of the form is invalid.
+ *
+ * With each status other than DONE, bytes is unchanged. gix_index_file.h reads the index at a path with its link
+ * followed, and writes a table to a path under a lock. */
 uint32_t gix_index_write(const gix_index_row *rows, size_t rows_len, const uint8_t *paths, size_t paths_len,
                          const gix_index_form *form, uint8_t *bytes, size_t bytes_len, gix_index_written *told);
 
-/* Writes a table as all bytes of an index that takes the place of another, given as all bytes of its file: mostly of
- * the one that the table was read from. They are read as gix_index_read reads them, without skip_hash.
+/* Writes a table as all bytes of an index that replaces another one. The other index is given as all bytes of its file.
+ * It usually is the one from which the table was read. It is read as by gix_index_read, without skip_hash.
  *
- * Where that index is a sparse one, so is this, and rows may have the mode GIX_INDEX_DIRECTORY. Its cached tree is kept
- * where it tells what the rows give: those that aren't in conflict have trees, and each directory of it that has a
- * number of entries has the id and the number that `git write-tree` gives it, and none in conflict below it. So a tree
- * that a changed row makes wrong is left out; told->tree says which. Its stages of resolved conflicts are kept. Where
- * the rows are its entries, bit by bit, its untracked cache and what a file system monitor said are kept too. An end
- * marker stands behind these where it had one. A link isn't kept: the table is to have the shared entries.
+ * - If that index is sparse, so is the new one, and rows may have the mode GIX_INDEX_DIRECTORY.
+ * - Its cached tree is preserved if it matches the rows, and left out otherwise; told->tree has which. It matches if
+ *   the rows that aren't in conflict have trees, and if these hold for each of its directories that has a number of
+ *   entries: it has the id and the number that `git write-tree` gives it, and no row below it is in conflict.
+ * - Its stages of resolved conflicts are preserved.
+ * - If the rows are its entries, bit by bit, its untracked cache and the data of a file system monitor are preserved
+ *   too.
+ * - If it has an end marker, the new one has an end marker after these.
+ * - A link isn't preserved. The table should have the shared entries.
  *
- * REFUSED: the fault is one that gix_index_read tells of index, and comes before those of the table; or as
- * gix_index_write tells it. MEMORY: malloc or realloc gave nothing. All else is as there. */
+ * REFUSED: the fault is one of gix_index_read for index, which comes before those of the table; or one of
+ * gix_index_write. MEMORY: malloc or realloc failed. All other results are as for gix_index_write. */
 uint32_t gix_index_write_over(const gix_index_row *rows, size_t rows_len, const uint8_t *paths, size_t paths_len,
                               const uint8_t *index, size_t index_len, const gix_index_form *form, uint8_t *bytes,
                               size_t bytes_len, gix_index_written *told);
 
-/* Makes changes of an index, given as all bytes of its file, and writes what comes of it as all bytes of the index that
- * takes its place. The bytes, and those of the shared index that they link to, are read as gix_index_read_split reads
- * them, without skip_hash; where there is no link, shared isn't looked at, and its length may be 0.
+/* Changes an index and writes the result as all bytes of the index that replaces it. The index is given as all bytes of
+ * its file. It is read as by gix_index_read_split with the shared index that it links to, without skip_hash. If there
+ * is no link, shared isn't read, and its length may be 0.
  *
- * The rows are the changes, in their order, as git makes them by `git update-index --add --replace`. A row stages its
- * entry: in the place of what has its path, at its stage or, where the row isn't in conflict, at any, as a conflict is
- * resolved; and of what is of its stage and a file where the path needs a directory, or the other way round. A row with
- * GIX_INDEX_REMOVE takes its path out, at each stage and without what is below it, as `git update-index --force-remove`
- * does; of such a row the path alone counts, and is cut where it passes the end of paths. A directory of a sparse index
- * isn't opened, where git expands it: a row whose path lies in one is refused, also one with GIX_INDEX_REMOVE.
+ * The rows are the changes, in their order, as `git update-index --add --replace` makes them.
  *
- * What speaks of the entries is kept as git keeps it. The cached tree loses the counts on the way to each path, and the
- * untracked cache what it has of its directories; sides of conflicts that go are recorded, so that `git checkout -m`
- * gets them back; what a file system monitor said moves along with the entries. What is written is of version 4 where
- * the index is, and else of 3 where an entry has GIX_INDEX_EXTENDED, and of 2 where none has; it has its digest, no
- * link, and an end marker where the index has one.
+ * - A row stages its entry. It replaces the entry with its path and its stage. If the row isn't in conflict, it
+ *   replaces the entries with its path at all stages, as a conflict is resolved. It also replaces entries of its stage
+ *   that are in its way: a file whose path has to be a directory, or entries below its path.
+ * - A row with GIX_INDEX_REMOVE removes its path at each stage, but not what is below it, as `git update-index
+ *   --force-remove` does. Only the path of such a row is used. It is cut if it exceeds the end of paths.
+ * - A directory of a sparse index isn't expanded, although git does. A row whose path is in one is rejected, also one
+ *   with GIX_INDEX_REMOVE.
  *
- * DONE: the first told->bytes of bytes are the index. NO_ROOM: the same call with as many bytes as are told has room;
- * so a call with NULL and the length 0 asks for it. REFUSED, of these the first: a fault that gix_index_read_split
- * tells, with of_shared one of shared; ORDER, and the place is the index's first entry that isn't above the one before
- * it; MODE or ROW, and the place is the first row without GIX_INDEX_REMOVE that gix_index_write refuses so, or, of a
- * sparse index, gix_index_write_over; NAME or ROW, and the place is the first row whose change is refused by itself:
- * NAME where a name of its path is empty, or is one that git refuses, as `..` and `.git`; ROW where its id is zeros,
- * where its mode is GIX_INDEX_DIRECTORY, or where there is no room for its path; BELOW, and the place is the first row
- * whose path lies in a directory that the index has as one entry; COUNT or LENGTH; or ROW with the place 0,
- * where a path of the shared index has a NUL, which version 4 can't hold. MEMORY: malloc or realloc gave nothing.
- * WRONG_NUMBER: kind is none. With each status but DONE bytes is as it was; with DONE, what lies behind the index is.
+ * Extensions are preserved as git preserves them. The cached tree loses the counts on the way to each path. The
+ * untracked cache loses the data of the path's directories. Sides of conflicts that are removed are recorded, so that
+ * `git checkout -m` restores them. The data of a file system monitor move with the entries. The result has version 4 if
+ * the index has. Otherwise it has version 3 if an entry has GIX_INDEX_EXTENDED, and version 2 if none has. It has its
+ * digest, no link, and an end marker if the index has one.
  *
- * gix_index_file.h does so of the index at a path, under its lock. */
+ * - DONE: the index is the first told->bytes of bytes. The rest of bytes is unchanged.
+ * - NO_ROOM: the call would succeed with told->bytes bytes. So a call with NULL and the length 0 returns this size.
+ * - REFUSED: told->fault is the first of the values below.
+ * - MEMORY: malloc or realloc failed.
+ * - WRONG_NUMBER: kind isn't valid.
+ *
+ * The values of told->fault, in their order:
+ *
+ * - one of gix_index_read_split, with of_shared if it is in shared;
+ * - ORDER: fault_place is the first entry of the index that isn't greater than the one before it;
+ * - MODE or ROW: fault_place is the first row without GIX_INDEX_REMOVE that gix_index_write rejects as such, or
+ *   gix_index_write_over for a sparse index;
+ * - NAME or ROW: fault_place is the first row whose change is rejected by itself. NAME: a name of its path is empty, or
+ *   git rejects it, such as `..` and `.git`. ROW: its id is zeros, its mode is GIX_INDEX_DIRECTORY, or there is no room
+ *   for its path;
+ * - BELOW: fault_place is the first row whose path is in a directory that the index has as one entry;
+ * - COUNT or LENGTH; or ROW with fault_place 0: a path of the shared index has a NUL, which version 4 can't store.
+ *
+ * With each status other than DONE, bytes is unchanged. gix_index_file.h changes the index at a path under its lock. */
 uint32_t gix_index_update(const gix_index_row *rows, size_t rows_len, const uint8_t *paths, size_t paths_len,
                           const uint8_t *index, size_t index_len, const uint8_t *shared, size_t shared_len,
                           uint32_t kind, uint8_t *bytes, size_t bytes_len, gix_index_written *told);
 
-/* Gives the trees of a table, as `git write-tree` makes them: a tree for each directory that something stands in, by
- * its id, and its bytes, as `git cat-file tree` prints them. Each stands behind those that it names, so that the root's
- * is the last; its bytes begin where those of the one before it end. A store takes them in this order.
+/* Builds the tree objects of a table, as `git write-tree` makes them. There is a tree for each directory that has
+ * entries: its id, and its bytes, as `git cat-file tree` prints them. Each follows the trees that it names, so that the
+ * root is the last. Its bytes begin at the end of those of the tree before it. Store them in this order.
  *
- * It takes the rows that gix_index_write takes; a row may have the mode GIX_INDEX_DIRECTORY too, as of a sparse index,
- * and then it stands for a tree that is there already. Rows with GIX_INDEX_REMOVE are passed over. One with
- * GIX_INDEX_INTENT_TO_ADD has to be such as the others, but stands in no tree, nor does a directory of such alone.
- * Whether the objects that rows name are there isn't looked at.
+ * The rows have to meet the conditions of gix_index_write. A row may also have the mode GIX_INDEX_DIRECTORY, as in a
+ * sparse index. It names a tree that exists already. Rows with GIX_INDEX_REMOVE are skipped. A row with
+ * GIX_INDEX_INTENT_TO_ADD has to meet the conditions, but is in no tree, and a directory that has only such rows has no
+ * tree. Whether the objects that rows name exist isn't checked.
  *
- * DONE: the first told->trees of trees are the trees, and the first told->bytes of bytes are theirs; the root has a
- * tree always, even without bytes. NO_ROOM: the same call with as many of both as are told has room; so a call with
- * NULL and the length 0 for both asks for the sizes. REFUSED: ROW, MODE or ORDER, as gix_index_write tells them of the
- * first row that isn't such; or, where all are such and in order, the fault is that of the first row that can't stand
- * in a tree: UNMERGED where it is in conflict; NAME where a name of its path is empty or is one that git refuses, as
- * `..` and `.git`; BELOW where another row's path is in the way; ROW where its id is zeros, where it lies below more
- * than 2048 directories, or where it stands for a directory and its path has no slash at its end; or it is COUNT, and
- * the place is 0. MEMORY: malloc or realloc gave nothing, and the rows are such and in order. WRONG_NUMBER: kind is
- * none. With each status but DONE trees and bytes are as they were; with DONE, what lies behind the trees is.
+ * - DONE: the trees are the first told->trees of trees, and their bytes the first told->bytes of bytes. The rest of
+ *   both is unchanged. There is always a tree of the root, even without bytes.
+ * - NO_ROOM: the call would succeed with the sizes in told. So a call with NULL and the length 0 for both returns the
+ *   sizes.
+ * - REFUSED: ROW, MODE or ORDER, as gix_index_write returns them for the first row that doesn't meet the conditions. If
+ *   all rows meet them, the fault is that of the first row that can't be in a tree (below), or COUNT with fault_place
+ *   0.
+ * - MEMORY: malloc or realloc failed. The rows meet the conditions and are in order.
+ * - WRONG_NUMBER: kind isn't valid.
  *
- * gix_index_table.h hands each tree to a function. */
+ * The errors of a row that can't be in a tree:
+ *
+ * - UNMERGED: it is in conflict.
+ * - NAME: a name of its path is empty, or git rejects it, such as `..` and `.git`.
+ * - BELOW: the path of another row is in the way.
+ * - ROW: its id is zeros, it is below more than 2048 directories, or it is a directory whose path has no slash at its
+ *   end.
+ *
+ * With each status other than DONE, trees and bytes are unchanged. gix_index_table.h passes each tree to a function. */
 uint32_t gix_index_trees(const gix_index_row *rows, size_t rows_len, const uint8_t *paths, size_t paths_len,
                          uint32_t kind, gix_index_tree *trees, size_t trees_len, uint8_t *bytes, size_t bytes_len,
                          gix_index_given *told);

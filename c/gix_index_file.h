@@ -1,27 +1,30 @@
-/* Reading and checking the index at a path, with its link followed, and changing it or writing a table in its place by
- * way of a lock, for POSIX systems. gix_index_table.h has what reads and checks, without the rest.
+/* SPDX-License-Identifier: MIT OR Apache-2.0 */
+/* Reads and checks the index at a path, with its link followed, and changes it or replaces it by a table under a lock,
+ * for POSIX systems. gix_index_table.h has only the calls that read and check.
  *
- * Safe beside git, which may write the same index, is a call of gix_index_lock_file, then gix_index_read_file where the
- * entries are looked at, then gix_index_commit_changes or gix_index_commit: what is read is what is replaced. The first
- * makes changes as git makes them, and the second writes a table. gix_index_write_file and gix_index_write_file_over
- * lock only when they write, so what another wrote between the reading and them is lost.
+ * These calls are safe if git may write the same index concurrently: gix_index_lock_file, then gix_index_read_file if
+ * the entries are needed, then gix_index_commit_changes or gix_index_commit. The index that is replaced is the one that
+ * was read. gix_index_commit_changes makes changes as git makes them, and gix_index_commit writes a table.
+ * gix_index_write_file and gix_index_write_file_over lock only when they write. What another process wrote after the
+ * index was read is lost.
  *
- * The library itself opens no files, so this stands in C beside it, and isn't proved. With -std=c99 and the like,
+ * The library itself opens no files. So this header is C code that isn't proved. With -std=c99 and the like,
  * _POSIX_C_SOURCE has to be 200809L before the first header is included. */
 #ifndef GIX_INDEX_FILE_H
 #define GIX_INDEX_FILE_H
 
 #include "gix_index_table.h"
 
-/* What calls that lock answer beside the statuses of the other headers. Where GIX_INDEX_SYSTEM comes with EEXIST, the
- * lock file is there: another process writes the index, or died, and then the file has to be removed by hand. Where it
- * comes with ELOOP, more than GIX_INDEX_MOST_LINKS symbolic links stand one behind the other. */
+/* A status of calls that lock, in addition to those of the other headers. GIX_INDEX_SYSTEM with EEXIST means that the
+ * lock file exists. Another process writes the index, or died, and then the file has to be removed by hand.
+ * GIX_INDEX_SYSTEM with ELOOP means that a chain has more than GIX_INDEX_MOST_LINKS symbolic links. */
 #define GIX_INDEX_NOT_REGULAR 7u /* what is to be written over is a directory, a device, a fifo or a socket */
 
-/* How many symbolic links are followed to the file that is locked, as git does. */
+/* The largest number of symbolic links that are followed to the file that is locked, as in git. */
 #define GIX_INDEX_MOST_LINKS 5
 
-/* The lock on the index at a path. The lock file tells git and others that heed it to write nothing there meanwhile. */
+/* A lock on the index at a path. While the lock file exists, git and other programs that respect it don't write the
+ * index. */
 typedef struct {
     char *path;            /* the index: the file that the given path names, behind all symbolic links */
     char *lock_path;       /* the lock file: that with `.lock` behind it; NULL where it wasn't come to */
@@ -31,7 +34,7 @@ typedef struct {
     struct timespec mtime; /* when that was written last */
 } gix_index_lock;
 
-/* Removes the lock file where it is this lock's, and leaves its path. errno is as it was. */
+/* Removes the lock file if this lock owns it, and keeps its path. errno is unchanged. */
 static inline void gix_index_unlock(gix_index_lock *lock) {
     int error = errno;
     if (lock->is_held) {
@@ -42,8 +45,8 @@ static inline void gix_index_unlock(gix_index_lock *lock) {
     errno = error;
 }
 
-/* Gives a lock up: what is at the index's path stays as it was, the lock file is removed where it is this lock's, and
- * the memory is given back. errno is as it was, and the lock is zeros, of which nothing is to be given up. */
+/* Releases a lock. The index is unchanged, the lock file is removed if this lock owns it, and the memory is freed.
+ * errno is unchanged. The lock is zeros afterwards, for which another call does nothing. */
 GIX_INDEX_API void gix_index_rollback(gix_index_lock *lock) {
     int error = errno;
     gix_index_unlock(lock);
@@ -53,7 +56,7 @@ GIX_INDEX_API void gix_index_rollback(gix_index_lock *lock) {
     errno = error;
 }
 
-/* Notes what stands at the index's path. */
+/* Stores what is at the index's path. */
 static inline uint32_t gix_index_look(gix_index_lock *lock) {
     struct stat seen;
     bool is_there = lstat(lock->path, &seen) == 0;
@@ -64,8 +67,8 @@ static inline uint32_t gix_index_look(gix_index_lock *lock) {
     return !is_there || S_ISREG(seen.st_mode) ? GIX_INDEX_DONE : GIX_INDEX_NOT_REGULAR;
 }
 
-/* The path that a symbolic link names, a relative one from the link's directory on, which the caller frees; or NULL,
- * and errno says why. */
+/* Returns the path that a symbolic link names; a relative one starts at the link's directory. The caller frees it.
+ * Returns NULL if that fails, with the reason in errno. */
 static inline char *gix_index_target_of(const char *path) {
     char link[4096];
     ssize_t len = readlink(path, link, sizeof link);
@@ -81,7 +84,7 @@ static inline char *gix_index_target_of(const char *path) {
     return target;
 }
 
-/* Follows the links at the index's path, and notes what stands behind them. */
+/* Follows the links at the index's path, and stores what is at their end. */
 static inline uint32_t gix_index_follow(gix_index_lock *lock) {
     for (int links = 0;; links++) {
         uint32_t status = gix_index_look(lock);
@@ -98,7 +101,8 @@ static inline uint32_t gix_index_follow(gix_index_lock *lock) {
     }
 }
 
-/* Makes the lock file, and notes what it keeps others from writing. It gets that file's permissions before a byte. */
+/* Creates the lock file, and stores what is at the index's path. The lock file gets that file's permissions before its
+ * first byte. */
 static inline uint32_t gix_index_make_lock(gix_index_lock *lock) {
     size_t len = strlen(lock->path);
     lock->lock_path = (char *)malloc(len + sizeof ".lock");
@@ -115,14 +119,18 @@ static inline uint32_t gix_index_make_lock(gix_index_lock *lock) {
     return status;
 }
 
-/* Locks the index at a path, as git locks it: symbolic links are followed first, GIX_INDEX_MOST_LINKS at most, and
- * what the last one names has to be there; then the lock file is made, which mustn't be there. What is read of
- * lock->path from then on stays until gix_index_commit_changes, gix_index_commit or gix_index_rollback ends the lock.
+/* Locks the index at a path as git locks it. First it follows symbolic links, at most GIX_INDEX_MOST_LINKS; the target
+ * of the last one has to exist. Then it creates the lock file, which must not exist. What is read from lock->path
+ * afterwards stays until gix_index_commit_changes, gix_index_commit or gix_index_rollback ends the lock.
  *
- * DONE: the lock is held. NOT_REGULAR: what stands at lock->path is no regular file, and lock->mode says what it is.
- * MEMORY: malloc gives nothing. SYSTEM: a call of the system failed. With each but DONE no lock is held, and all files
- * are as they were; with each gix_index_rollback gives the memory back. The paths in the lock are those that were come
- * to, so that with EEXIST lock->lock_path is the file that is there. */
+ * - DONE: the lock is held.
+ * - NOT_REGULAR: the file at lock->path isn't a regular file, and lock->mode is its mode.
+ * - MEMORY: malloc failed.
+ * - SYSTEM: a system call failed.
+ *
+ * With each status other than DONE no lock is held, and all files are unchanged. With each status gix_index_rollback
+ * frees the memory. The paths in the lock are those at the end of all links, so with EEXIST lock->lock_path is the
+ * existing lock file. */
 GIX_INDEX_API uint32_t gix_index_lock_file(const char *path, gix_index_lock *lock) {
     size_t size = strlen(path) + 1;
     memset(lock, 0, sizeof *lock);
@@ -138,7 +146,7 @@ GIX_INDEX_API uint32_t gix_index_lock_file(const char *path, gix_index_lock *loc
     return status == GIX_INDEX_DONE ? gix_index_make_lock(lock) : status;
 }
 
-/* Puts all bytes to a file, also where a signal interrupts it. */
+/* Writes all bytes to a file, and retries if a signal interrupts it. */
 static inline bool gix_index_put_all(int file, const uint8_t *bytes, size_t len) {
     while (len > 0) {
         ssize_t put = write(file, bytes, len);
@@ -150,11 +158,12 @@ static inline bool gix_index_put_all(int file, const uint8_t *bytes, size_t len)
     return true;
 }
 
-/* Whether a time may be given to an index. By one whose seconds are 0, of which git looks at 32 bits, git would trust
- * every entry. */
+/* Returns whether an index may get this time. git reads 32 bits of the seconds. With 0 seconds it would trust every
+ * entry. */
 static inline bool gix_index_is_time(struct timespec time) { return (uint32_t)time.tv_sec != 0; }
 
-/* Gives the lock file this time, or else that of the old index, or else leaves it the time of its making. */
+/* Sets this time on the lock file. If it may not be used, sets that of the old index, or else leaves the time of
+ * creation. */
 static inline bool gix_index_put_time(const gix_index_lock *lock, struct timespec mtime) {
     if (!gix_index_is_time(mtime)) mtime = lock->mtime;
     struct timespec times[2];
@@ -164,7 +173,7 @@ static inline bool gix_index_put_time(const gix_index_lock *lock, struct timespe
     return !gix_index_is_time(mtime) || futimens(lock->file, times) == 0;
 }
 
-/* Puts the bytes to the lock file, and lets it take the place of the index. After a failure the lock is still held. */
+/* Writes the bytes to the lock file, and renames it to the index. After a failure the lock is still held. */
 static inline bool gix_index_replace(gix_index_lock *lock, const uint8_t *bytes, size_t len, struct timespec mtime,
                                      bool is_synced) {
     errno = EBADF;
@@ -178,21 +187,22 @@ static inline bool gix_index_replace(gix_index_lock *lock, const uint8_t *bytes,
     return true;
 }
 
-/* At most so many bytes has an index of these rows without extensions, whose paths lie among so many bytes. */
+/* Returns the largest number of bytes of an index with these rows and without extensions. paths_len counts the bytes of
+ * all paths. */
 static inline size_t gix_index_most(const gix_index_row *rows, size_t rows_len, size_t paths_len) {
     size_t most = 44;
     for (size_t i = 0; i < rows_len; i++) most += 96 + (rows[i].path_len < paths_len ? rows[i].path_len : paths_len);
     return most;
 }
 
-/* The bytes of a shared index, of which there may be none. */
+/* The bytes of a shared index, if there is one. */
 typedef struct {
     uint8_t *bytes;
     size_t len;
 } gix_index_shared;
 
-/* The bytes of the table as an index, over another where its bytes are given; or, where shared is, what the rows make
- * of that one as changes. The caller frees them; they are NULL where the status isn't DONE. */
+/* Returns the bytes of the table as an index, which replaces another one if its bytes are given. With shared, the rows
+ * are changes of that other index. The caller frees the result, which is NULL if the status isn't DONE. */
 static inline uint8_t *gix_index_image(const gix_index_row *rows, size_t rows_len, const uint8_t *paths,
                                        size_t paths_len, const uint8_t *index, size_t index_len,
                                        const gix_index_shared *shared, const gix_index_form *form,
@@ -216,19 +226,26 @@ static inline uint8_t *gix_index_image(const gix_index_row *rows, size_t rows_le
     }
 }
 
-/* Writes a table as the index that is locked, and ends the lock: what gix_index_write writes, or gix_index_write_over
- * where the table has the bytes of an index, as gix_index_read_file leaves them. So their extensions are kept where
- * they still fit the rows.
+/* Writes a table as the index that is locked, and ends the lock. If the table has the bytes of an index, as
+ * gix_index_read_file leaves them, it writes what gix_index_write_over writes; otherwise what gix_index_write writes.
+ * So extensions that still match the rows are preserved.
  *
- * The file has the permissions of the one that it takes the place of, or else those that the umask leaves. Its time is
- * t->mtime, so that git looks at each file that it would have looked at beside the index that was read; where that is
- * zeros, that of the old index; and where there was none, that of its making. A time of 0 seconds isn't put, as git
- * would trust every entry by it. With is_synced the file is synced to the disk before it takes its place.
+ * The file has the permissions of the index that it replaces, or those that the umask leaves. Its time is the first of
+ * these that exists:
  *
- * DONE: the index is written. REFUSED, MEMORY, WRONG_NUMBER: as those calls answer; MEMORY also where malloc gives
- * nothing for the bytes. SYSTEM: a call of the system failed. NO_ROOM isn't answered. With each but DONE the index is
- * as it was; with each the lock file is gone, if that can be done, and gix_index_rollback was called. told is written
- * with each status. */
+ * - t->mtime, unless it is zeros. So git compares each file that it would have compared with the index that was read.
+ * - The time of the old index.
+ * - The time of its creation.
+ *
+ * A time of 0 seconds isn't set, because git would trust every entry by it. With is_synced the file is synced to the
+ * disk before it replaces the index.
+ *
+ * - DONE: the index is written.
+ * - REFUSED, MEMORY, WRONG_NUMBER: as those calls return them. MEMORY also if malloc fails for the bytes.
+ * - SYSTEM: a system call failed.
+ *
+ * NO_ROOM isn't returned. With each status other than DONE the index is unchanged. With each status the lock file is
+ * removed, if possible, and gix_index_rollback was called. told is written with each status. */
 GIX_INDEX_API uint32_t gix_index_commit(gix_index_lock *lock, const gix_index_table *t, const gix_index_form *form,
                                         bool is_synced, gix_index_written *told) {
     uint32_t status;
@@ -242,8 +259,8 @@ GIX_INDEX_API uint32_t gix_index_commit(gix_index_lock *lock, const gix_index_ta
     return status;
 }
 
-/* The bytes of the index that is locked, and of the shared one that it links to, which the caller frees. Where there is
- * no index yet, they are those of one without entries. told is of the last call. */
+/* Reads the bytes of the index that is locked, and of the shared index that it links to. The caller frees them. If
+ * there is no index yet, the bytes are those of an index without entries. told is that of the last call. */
 static inline uint8_t *gix_index_locked_bytes(const gix_index_lock *lock, const gix_index_form *form, size_t *len,
                                               gix_index_shared *shared, gix_index_written *told, uint32_t *status) {
     gix_index_summary said;
@@ -257,7 +274,7 @@ static inline uint8_t *gix_index_locked_bytes(const gix_index_lock *lock, const 
     bytes = gix_index_bytes_of(lock->path, len);
     if (!bytes) return NULL;
     *status = gix_index_shared_of(lock->path, bytes, *len, form->kind, NULL, 0, &said, &shared->bytes, &shared->len);
-    /* (what is refused, gix_index_update tells) */
+    /* (if the bytes are rejected, gix_index_update returns the error) */
     if (*status == GIX_INDEX_DONE || *status == GIX_INDEX_REFUSED) return bytes;
     told->of_shared = said.of_shared;
     int error = errno;
@@ -266,17 +283,19 @@ static inline uint8_t *gix_index_locked_bytes(const gix_index_lock *lock, const 
     return NULL;
 }
 
-/* Makes changes of the index that is locked, as gix_index_update makes them of its bytes, writes what comes of them in
- * its place, and ends the lock. A link to a shared index is followed, as gix_index_read_file follows it. Where there is
- * no index yet, they are made of one without entries, in version 2, or 3 where a row has GIX_INDEX_EXTENDED.
+/* Changes the index that is locked as gix_index_update changes bytes, writes the result in its place, and ends the
+ * lock. A link to a shared index is followed as by gix_index_read_file. If there is no index yet, the changes are made
+ * to one without entries. It gets version 2, or 3 if a row has GIX_INDEX_EXTENDED.
  *
- * Permissions and is_synced are as gix_index_commit has them, and the time is that of the old index, so that git looks
- * at each file that it would have looked at.
+ * Permissions and is_synced are as for gix_index_commit. The time is that of the old index, so git compares each file
+ * that it would have compared.
  *
- * DONE: the index is written. REFUSED, MEMORY, WRONG_NUMBER: as gix_index_update answers; MEMORY also where malloc
- * gives nothing for the bytes. SYSTEM: a call of the system failed, with told->of_shared one that reads the shared
- * index. NO_ROOM isn't answered. With each but DONE the index is as it was; with each the lock file is gone, if that
- * can be done, and gix_index_rollback was called. told is written with each status. */
+ * - DONE: the index is written.
+ * - REFUSED, MEMORY, WRONG_NUMBER: as gix_index_update returns them. MEMORY also if malloc fails for the bytes.
+ * - SYSTEM: a system call failed. With told->of_shared it reads the shared index.
+ *
+ * NO_ROOM isn't returned. With each status other than DONE the index is unchanged. With each status the lock file is
+ * removed, if possible, and gix_index_rollback was called. told is written with each status. */
 GIX_INDEX_API uint32_t gix_index_commit_changes(gix_index_lock *lock, uint32_t kind, const gix_index_row *rows,
                                                 size_t rows_len, const uint8_t *paths, size_t paths_len,
                                                 bool is_synced, gix_index_written *told) {
@@ -298,7 +317,7 @@ GIX_INDEX_API uint32_t gix_index_commit_changes(gix_index_lock *lock, uint32_t k
     return status;
 }
 
-/* Puts the bytes, which are freed, to a path by way of its lock. */
+/* Writes the bytes to a path under its lock, and frees them. */
 static inline uint32_t gix_index_put_file(const char *path, uint8_t *bytes, size_t bytes_len) {
     gix_index_lock lock;
     uint32_t status = gix_index_lock_file(path, &lock);
@@ -311,18 +330,21 @@ static inline uint32_t gix_index_put_file(const char *path, uint8_t *bytes, size
     return status;
 }
 
-/* Writes a table as the index at a path, which is locked once the bytes are there: an index that was read before may
- * have been changed meanwhile, and the change is lost. gix_index_lock_file and gix_index_commit are safe beside git.
+/* Writes a table as the index at a path, which is locked once the bytes are ready. If the index was changed after it
+ * was read, the change is lost. gix_index_lock_file and gix_index_commit are safe if git writes concurrently.
  *
- * What gix_index_write writes goes to the lock file, which then takes the place of the index, so that the path has the
- * old index or the new one at each moment. Permissions and time are those of the old index, as gix_index_commit keeps
- * them; a new index's time is that of its making, by which git may trust more entries than by that of the index that
- * they were read from. Nothing is synced to the disk, as git by its defaults doesn't sync an index.
+ * The bytes of gix_index_write are written to the lock file, which then replaces the index. So the path has the old
+ * index or the new one at each moment. Permissions and time are those of the old index, as for gix_index_commit. A new
+ * index has the time of its creation. By this time git may trust more entries than by that of the index from which they
+ * were read. Nothing is synced to the disk; git by default doesn't sync an index either.
  *
- * DONE: the path has the index. NOT_REGULAR, SYSTEM: as gix_index_lock_file and gix_index_commit answer; the path is as
- * it was, another's lock is left where it is, and this one's is removed, if that can be done. REFUSED, MEMORY,
- * WRONG_NUMBER: as gix_index_write answers them, and no file was touched; MEMORY also where malloc gives nothing.
- * NO_ROOM isn't answered. told is written with each status. */
+ * - DONE: the path has the index.
+ * - NOT_REGULAR, SYSTEM: as gix_index_lock_file and gix_index_commit return them. The path is unchanged. The lock of
+ *   another process is left, and that of this call is removed, if possible.
+ * - REFUSED, MEMORY, WRONG_NUMBER: as gix_index_write returns them, and no file was changed. MEMORY also if malloc
+ *   fails.
+ *
+ * NO_ROOM isn't returned. told is written with each status. */
 GIX_INDEX_API uint32_t gix_index_write_file(const char *path, const gix_index_row *rows, size_t rows_len,
                                             const uint8_t *paths, size_t paths_len, const gix_index_form *form,
                                             gix_index_written *told) {
@@ -331,8 +353,9 @@ GIX_INDEX_API uint32_t gix_index_write_file(const char *path, const gix_index_ro
     return bytes ? gix_index_put_file(path, bytes, told->bytes) : status;
 }
 
-/* The same of what gix_index_write_over writes over the bytes of an index, as a table has them that was read from a
- * file: so its extensions are kept where they still fit the rows. */
+/* Writes a table as the index at a path, as gix_index_write_file does, but with the bytes that gix_index_write_over
+ * writes. They replace the bytes of an index, such as those of a table that was read from a file. So its extensions
+ * that still match the rows are preserved. */
 GIX_INDEX_API uint32_t gix_index_write_file_over(const char *path, const gix_index_row *rows, size_t rows_len,
                                                  const uint8_t *paths, size_t paths_len, const uint8_t *index,
                                                  size_t index_len, const gix_index_form *form,

@@ -1,7 +1,8 @@
-/* Reading and checking the index at a path, with its link followed, and handing on the trees of a table, for POSIX
- * systems. gix_index_file.h has all of it, and writes an index too.
+/* SPDX-License-Identifier: MIT OR Apache-2.0 */
+/* Reads and checks the index at a path, with its link followed, and passes the trees of a table to a function, for
+ * POSIX systems. gix_index_file.h includes all of it, and also writes an index.
  *
- * The library itself opens no files, so this stands in C beside it, and isn't proved. With -std=c99 and the like,
+ * The library itself opens no files. So this header is C code that isn't proved. With -std=c99 and the like,
  * _POSIX_C_SOURCE has to be 200809L before the first header is included. */
 #ifndef GIX_INDEX_TABLE_H
 #define GIX_INDEX_TABLE_H
@@ -21,24 +22,24 @@
 #error "gix_index_table.h takes POSIX of 2008: define _POSIX_C_SOURCE as 200809L before the first header is included"
 #endif
 
-/* How the calls of the headers for files are linked: each source that includes these has functions of its own. The
- * shared library has the same calls by the same names, for callers in other languages: gix_index_file.c makes them. */
+/* How the calls of the headers for files are linked. By default each source that includes them has functions of its
+ * own. The shared library has the same calls by the same names, for callers in other languages; gix_index_file.c makes
+ * them. */
 #ifndef GIX_INDEX_API
 #define GIX_INDEX_API static inline
 #endif
 
-/* What calls for files answer beside the statuses of gix_index.h: a call of the system failed, and errno says why.
- * Among others EFBIG is a file with more than GIX_INDEX_MOST_BYTES, or without an end; EISDIR a directory that was to
- * be read. */
+/* A status of calls for files in addition to those of gix_index.h: a system call failed, and errno has the reason. For
+ * example, EFBIG is a file with more than GIX_INDEX_MOST_BYTES, or without an end; EISDIR is a directory to be read. */
 #define GIX_INDEX_SYSTEM 6u
 
-/* What gix_index_write_trees answers beside: the function that takes trees answered something else than 0. */
+/* A status of gix_index_write_trees alone: the function that takes trees returned a number other than 0. */
 #define GIX_INDEX_STOPPED 8u
 
-/* The most bytes that a file of an index may have: 2 to the 32nd, and the longest trailer. */
+/* The largest number of bytes of an index file: 2 to the 32nd, and the longest trailer. */
 #define GIX_INDEX_MOST_BYTES (((uint64_t)1 << 32) + 32)
 
-/* A table in memory of its own, and the bytes of the file that it was read from. */
+/* A table that owns its memory, and the bytes of the file from which it was read. */
 typedef struct {
     gix_index_row *rows;
     uint8_t *paths;
@@ -55,8 +56,8 @@ GIX_INDEX_API void gix_index_drop_table(gix_index_table *t) {
     memset(t, 0, sizeof *t);
 }
 
-/* Makes room for so many rows more, and so many bytes more of paths, behind those that the summary counts. False where
- * there is no memory: the table is as it was. */
+/* Reserves memory for further rows and bytes of paths, after those that the summary counts. Returns false if an
+ * allocation fails; then the table is unchanged. */
 static inline bool gix_index_more_room(gix_index_table *t, size_t rows, size_t path_bytes) {
     size_t most = ((size_t)-1 >> 1) / sizeof *t->rows;
     if (rows > most - t->said.entries || path_bytes > (size_t)-1 - t->said.path_bytes - 1) return false;
@@ -67,9 +68,9 @@ static inline bool gix_index_more_room(gix_index_table *t, size_t rows, size_t p
     return paths != NULL;
 }
 
-/* Puts what the file system says of a file, mostly by lstat, into a row: its stat numbers, each modulo 2 to the 32nd as
- * git stores it, and its mode. False where it is no regular file, no link and no directory, and the mode stays; that of
- * a directory is that of a submodule. */
+/* Stores the stat of a file, usually that of lstat, in a row: its numbers, each modulo 2 to the 32nd as git stores it,
+ * and its mode. A directory gets the mode of a submodule. Returns false, and leaves the mode unchanged, for another
+ * type than a regular file, a link or a directory. */
 static inline bool gix_index_set_stat(gix_index_row *row, const struct stat *seen) {
     row->ctime_secs = (uint32_t)seen->st_ctim.tv_sec;
     row->ctime_nsecs = (uint32_t)seen->st_ctim.tv_nsec;
@@ -86,7 +87,7 @@ static inline bool gix_index_set_stat(gix_index_row *row, const struct stat *see
     return S_ISREG(seen->st_mode) || S_ISLNK(seen->st_mode) || S_ISDIR(seen->st_mode);
 }
 
-/* Opens a file, also where a signal interrupts that. One that is made has the permissions that the umask leaves. */
+/* Opens a file, and retries if a signal interrupts it. A new file has the permissions that the umask leaves. */
 static inline int gix_index_open(const char *path, int flags) {
     int file;
     do file = open(path, flags | O_CLOEXEC, 0666);
@@ -94,8 +95,8 @@ static inline int gix_index_open(const char *path, int flags) {
     return file;
 }
 
-/* A room for twice as many bytes, but none for more than a file may have and one; or NULL, and errno says why. The old
- * one is gone then. */
+/* Doubles the memory, up to one byte more than a file may have. Returns NULL if that fails, with the reason in errno.
+ * The old memory is freed in both cases. */
 static inline uint8_t *gix_index_grow(uint8_t *bytes, size_t *room) {
     uint64_t most = GIX_INDEX_MOST_BYTES + 1, more = *room < most / 2 ? 2 * (uint64_t)*room : most;
     uint8_t *grown = more <= (size_t)-1 ? (uint8_t *)realloc(bytes, (size_t)more) : NULL;
@@ -107,8 +108,8 @@ static inline uint8_t *gix_index_grow(uint8_t *bytes, size_t *room) {
     return grown;
 }
 
-/* All bytes of an open file from its place on, which the caller frees; NULL where they can't be read or are too many,
- * and errno says why. The first room is for so many bytes, of which there is one at least. */
+/* Returns all bytes of an open file from its current position on. The caller frees them. Returns NULL if they can't be
+ * read or are too many, with the reason in errno. room is the size of the first allocation, and at least 1. */
 static inline uint8_t *gix_index_bytes_behind(int file, size_t room, size_t *len) {
     const size_t most_at_once = 1 << 30;
     uint8_t *bytes = (uint8_t *)malloc(room);
@@ -129,14 +130,15 @@ static inline uint8_t *gix_index_bytes_behind(int file, size_t room, size_t *len
     return bytes;
 }
 
-/* The same of the file at a path, with the time at which it was written last, or zeros of a pipe or a device. */
+/* Returns all bytes of the file at a path, which the caller frees, and the time at which it was last written. The time
+ * is zeros for a pipe or a device. Returns NULL if the file can't be read or is too long, with the reason in errno. */
 static inline uint8_t *gix_index_bytes_and_time_of(const char *path, size_t *len, struct timespec *mtime) {
     int file = gix_index_open(path, O_RDONLY);
     if (file < 0) return NULL;
     struct stat said;
     uint8_t *bytes = NULL;
     if (fstat(file, &said) == 0) {
-        /* (the size says only how much room is asked for first, as the file may change) */
+        /* (the size is only that of the first allocation, because the file may change) */
         bool is_size = said.st_size > 0 && (uint64_t)said.st_size <= GIX_INDEX_MOST_BYTES;
         bytes = gix_index_bytes_behind(file, is_size ? (size_t)said.st_size + 1 : 1 << 16, len);
         memset(mtime, 0, sizeof *mtime);
@@ -148,21 +150,22 @@ static inline uint8_t *gix_index_bytes_and_time_of(const char *path, size_t *len
     return bytes;
 }
 
-/* All bytes of a file, which the caller frees; NULL where it can't be read or is too long, and errno says why. */
+/* Returns all bytes of a file, which the caller frees. Returns NULL if it can't be read or is too long, with the reason
+ * in errno. */
 static inline uint8_t *gix_index_bytes_of(const char *path, size_t *len) {
     struct timespec mtime;
     return gix_index_bytes_and_time_of(path, len, &mtime);
 }
 
-/* Whether an index links to a shared one that has an id. */
+/* Returns whether an index links to a shared index that has an id. */
 static inline bool gix_index_links(const gix_index_summary *said) {
     uint8_t some = 0;
     for (size_t i = 0; i < sizeof said->shared_id; i++) some |= said->shared_id[i];
     return said->has_link && some;
 }
 
-/* The path of the shared index that the index at a path links to, which the caller frees; NULL where malloc gives
- * nothing. */
+/* Returns the path of the shared index to which the index at a path links. The caller frees it. Returns NULL if malloc
+ * fails. */
 static inline char *gix_index_shared_path(const char *path, uint32_t kind, const gix_index_summary *said) {
     const char *slash = strrchr(path, '/');
     size_t folder = slash ? (size_t)(slash + 1 - path) : 0, len = kind == GIX_INDEX_SHA1 ? 20 : 32;
@@ -174,24 +177,24 @@ static inline char *gix_index_shared_path(const char *path, uint32_t kind, const
     return shared;
 }
 
-/* Whether there is room for as many rows and bytes for paths as the summary has. */
+/* Allocates the rows and the bytes of paths that the summary counts. Returns whether it succeeded. */
 static inline bool gix_index_make_room(gix_index_table *t) {
     t->rows = (gix_index_row *)calloc(t->said.entries + 1, sizeof *t->rows);
     t->paths = (uint8_t *)malloc(t->said.path_bytes + 1);
     return t->rows && t->paths;
 }
 
-/* Fills the table from its bytes, which have no link, by the sizes in its summary. Those are zeros where a reading was
- * refused before, as this one is then. */
+/* Fills the table from its bytes, which have no link, with the sizes in its summary. The sizes are zeros if the bytes
+ * were rejected before; then this call is rejected too. */
 static inline uint32_t gix_index_fill(gix_index_table *t, uint32_t kind, uint8_t *text, size_t text_len) {
     if (!gix_index_make_room(t)) return GIX_INDEX_MEMORY;
     return gix_index_read(t->bytes, t->bytes_len, kind, false, t->rows, t->said.entries, t->paths, t->said.path_bytes,
                           text, text_len, &t->said);
 }
 
-/* Fills the table from its bytes and those of the shared index, of which there may be none where the link has no id.
- * The first call asks for the sizes, and leaves the digests alone; where it refuses, they are looked at too, as a wrong
- * one is told before all other faults. */
+/* Fills the table from its bytes and those of the shared index, which may be missing if the link has no id. The first
+ * call returns the sizes, and doesn't check the digests. If it is rejected, a second call checks them, because a wrong
+ * digest is returned before all other errors. */
 static inline uint32_t gix_index_fill_of_both(gix_index_table *t, const uint8_t *shared, size_t shared_len,
                                               uint32_t kind, uint8_t *text, size_t text_len) {
     for (int skip_hash = 1; skip_hash >= 0; skip_hash--) {
@@ -205,10 +208,12 @@ static inline uint32_t gix_index_fill_of_both(gix_index_table *t, const uint8_t 
                                 t->paths, t->said.path_bytes, text, text_len, &t->said);
 }
 
-/* The bytes of the shared index that these bytes, of the index at a path, link to, which the caller frees. NULL with
- * DONE where there is none to follow, as the bytes don't link or are refused. REFUSED, MEMORY: of these bytes, as
- * gix_index_read answers; MEMORY also where malloc gives nothing for the path. SYSTEM: the file of the shared index
- * can't be read, and errno says why. */
+/* Reads the shared index to which the bytes of the index at a path link. The caller frees the result.
+ *
+ * - DONE: the bytes of the shared index. They are NULL if the bytes have no link, or are rejected.
+ * - REFUSED, MEMORY: for the bytes of the index, as gix_index_read returns them. MEMORY also if malloc fails for the
+ *   path.
+ * - SYSTEM: the file of the shared index can't be read, with the reason in errno. */
 static inline uint32_t gix_index_shared_of(const char *path, const uint8_t *bytes, size_t bytes_len, uint32_t kind,
                                            uint8_t *text, size_t text_len, gix_index_summary *said, uint8_t **shared,
                                            size_t *shared_len) {
@@ -217,7 +222,7 @@ static inline uint32_t gix_index_shared_of(const char *path, const uint8_t *byte
     uint32_t status = gix_index_read(bytes, bytes_len, kind, true, NULL, 0, NULL, 0, text, text_len, said);
     if (status == GIX_INDEX_MEMORY) return status;
     if (!gix_index_links(said)) return GIX_INDEX_DONE;
-    /* (a wrong digest is told before a shared index is looked for) */
+    /* (a wrong digest is returned before the shared index is searched for) */
     status = gix_index_read(bytes, bytes_len, kind, false, NULL, 0, NULL, 0, text, text_len, said);
     if (status != GIX_INDEX_DONE && status != GIX_INDEX_NO_ROOM) return status;
     char *shared_path = gix_index_shared_path(path, kind, said);
@@ -231,12 +236,16 @@ static inline uint32_t gix_index_shared_of(const char *path, const uint8_t *byte
     return *shared ? GIX_INDEX_DONE : GIX_INDEX_SYSTEM;
 }
 
-/* Reads the index at a path into a table. A link to a shared index is followed: that is the file sharedindex.ID beside
- * it.
+/* Reads the index at a path into a table. A link to a shared index is followed: the shared index is the file
+ * sharedindex.ID in the same directory.
  *
- * Statuses, the summary in the table and the text are those of gix_index_read_split; NO_ROOM isn't answered. MEMORY
- * also where malloc gives nothing for the table. SYSTEM: a file can't be read, and errno says why; with
- * t->said.of_shared it is the shared one. With each status gix_index_drop_table gives the memory back. */
+ * The statuses, the summary in the table and the text are those of gix_index_read_split, with these differences:
+ *
+ * - MEMORY: also if malloc fails for the table.
+ * - SYSTEM: a file can't be read, with the reason in errno. With t->said.of_shared it is the shared index.
+ * - NO_ROOM isn't returned.
+ *
+ * With each status, gix_index_drop_table frees the memory. */
 GIX_INDEX_API uint32_t gix_index_read_file(const char *path, uint32_t kind, uint8_t *text, size_t text_len,
                                            gix_index_table *t) {
     uint8_t *shared;
@@ -260,11 +269,13 @@ GIX_INDEX_API uint32_t gix_index_read_file(const char *path, uint32_t kind, uint
     return status;
 }
 
-/* Checks the index at a path as gix_index_check_split checks bytes, which is what `index-tool check` does. A link to a
- * shared index is followed, as gix_index_read_file follows it.
+/* Checks the index at a path as gix_index_check_split checks bytes, and as `index-tool check` does. A link to a shared
+ * index is followed as by gix_index_read_file.
  *
- * Statuses, the summary and the text are those of gix_index_check_split. MEMORY also where malloc gives nothing for
- * a path. SYSTEM: a file can't be read, and errno says why; with said->of_shared it is the shared one. */
+ * The statuses, the summary and the text are those of gix_index_check_split, with these differences:
+ *
+ * - MEMORY: also if malloc fails for a path.
+ * - SYSTEM: a file can't be read, with the reason in errno. With said->of_shared it is the shared index. */
 GIX_INDEX_API uint32_t gix_index_check_file(const char *path, uint32_t kind, uint8_t *text, size_t text_len,
                                             gix_index_summary *said) {
     uint8_t *shared;
@@ -282,15 +293,18 @@ GIX_INDEX_API uint32_t gix_index_check_file(const char *path, uint32_t kind, uin
     return status;
 }
 
-/* What takes a tree: its id, of 20 bytes or 32, and its bytes. An answer other than 0 ends the call. */
+/* A function that takes a tree: its id, of 20 or 32 bytes, and its bytes. A result other than 0 ends the call. */
 typedef int gix_index_put_tree(void *context, const uint8_t *id, size_t id_len, const uint8_t *bytes, size_t bytes_len);
 
-/* Hands the trees of a table to a function, one by one, with what the context points to: those that gix_index_trees
- * gives, each behind those that it names, the root's last. So the last id is that of `git write-tree`.
+/* Passes the trees of a table to a function, one by one, with context. These are the trees of gix_index_trees. Each
+ * follows the trees that it names, and the root is the last. So the last id is that of `git write-tree`.
  *
- * DONE: the function took all. STOPPED: it answered something else than 0, and wasn't called again. REFUSED,
- * WRONG_NUMBER: as gix_index_trees answers them, and the function wasn't called. MEMORY: malloc or realloc gave
- * nothing, nor was it. NO_ROOM isn't answered. told is written with each status, with STOPPED as with DONE. */
+ * - DONE: the function took all trees.
+ * - STOPPED: the function returned a number other than 0, and wasn't called again.
+ * - REFUSED, WRONG_NUMBER: as gix_index_trees returns them. The function wasn't called.
+ * - MEMORY: malloc or realloc failed. The function wasn't called.
+ *
+ * NO_ROOM isn't returned. told is written with each status, with STOPPED as with DONE. */
 GIX_INDEX_API uint32_t gix_index_write_trees(const gix_index_row *rows, size_t rows_len, const uint8_t *paths,
                                              size_t paths_len, uint32_t kind, gix_index_put_tree *put, void *context,
                                              gix_index_given *told) {

@@ -7,6 +7,7 @@ SANS = "DejaVu Sans, Verdana, Arial, sans-serif"
 MONO = "DejaVu Sans Mono, Consolas, Menlo, monospace"
 INK, SOFT = "#202124", "#5f6368"
 BLUE, YELLOW, GREEN, RED, VIOLET, GREY = "#e3edfd", "#fdf1d0", "#e2f3e6", "#fbe4e1", "#efe6fa", "#f1f3f4"
+WHITE = "#ffffff"
 
 
 def give_up(text):
@@ -41,6 +42,12 @@ class Picture:
         more = ' marker-end="url(#tip)"' if tip else ""
         more += ' stroke-dasharray="4 3"' if dash else ""
         self.parts.append(f'<path d="M{path}" fill="none" stroke="{SOFT}" stroke-width="1.2"{more}/>')
+
+    def frame(self, x, y, width, height, fill):
+        """A box without text and with a light edge, for what is drawn on it."""
+        self.parts.append(
+            f'<rect x="{x:g}" y="{y:g}" width="{width:g}" height="{height:g}" fill="{fill}" stroke="#bdc1c6"/>'
+        )
 
     def box(self, x, y, width, height, fill, *lines, mono=False):
         """A box with lines of text: the first large, the others small."""

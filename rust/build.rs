@@ -1,13 +1,14 @@
-//! Finds the static library, `libindex_c.a`, and `liblibc_c.a` behind it. In this order:
+// SPDX-License-Identifier: MIT OR Apache-2.0
+//! Finds the static library, `libgix_index.a`. In this order:
 //!
-//! 1. `GIX_INDEX_LIB`, where it is set, names a folder that has both, such as `c/install` makes.
-//! 2. `pkg-config` tells of a `gix_index` that is installed and of this crate's version, as it does where `c/install
-//!    PREFIX` put it and `PKG_CONFIG_PATH` has `PREFIX/lib/pkgconfig`. `PKG_CONFIG` names another such program.
-//! 3. In the repository, `tools/build` proves and builds it, where it isn't there or is of other sources. That takes
-//!    minutes, and a warning says so. What it tells goes to the terminal too, where there is one: cargo shows it only
-//!    with `-vv`, or where the build fails.
+//! 1. `GIX_INDEX_LIB`, if it is set, names a folder that has it, such as `PREFIX/lib` after `c/install PREFIX`.
+//! 2. `pkg-config` knows an installed `gix_index` with this crate's major version that is no older than the crate. It
+//!    does if `PKG_CONFIG_PATH` has `PREFIX/lib/pkgconfig`. `PKG_CONFIG` names another such program.
+//! 3. In the repository, `tools/build` proves and builds the two libraries that it is made of, unless they are up to
+//!    date. That takes minutes, and a warning says so. Its progress goes to the terminal too, if there is one: cargo
+//!    shows it only with `-vv`, or if the build fails.
 //!
-//! Elsewhere the build fails, and says which of these may be done.
+//! Otherwise the build fails with a message that lists these three.
 
 use std::env;
 use std::fs::{self, File};
@@ -15,21 +16,29 @@ use std::io::{BufRead, BufReader, Write};
 use std::path::{Path, PathBuf};
 use std::process::{Command, Stdio};
 
-const LIBRARIES: [&str; 2] = ["index_c", "libc_c"];
+/// The library as it is installed.
+const INSTALLED: [&str; 1] = ["gix_index"];
+
+/// What that is made of.
+const BUILT: [&str; 2] = ["index_c", "libc_c"];
+
+/// What to do if there is no library.
+const HOW: &str = "have the repository's `c/install PREFIX` put it below a PREFIX, and set PKG_CONFIG_PATH to \
+                   PREFIX/lib/pkgconfig, or GIX_INDEX_LIB to PREFIX/lib";
 
 /// What cargo or a caller sets.
 const ASKED: [&str; 4] = ["GIX_INDEX_LIB", "PKG_CONFIG", "PKG_CONFIG_PATH", "PKG_CONFIG_LIBDIR"];
 
 fn is_in(folder: &Path) -> bool {
-    LIBRARIES.iter().all(|name| folder.join(format!("lib{name}.a")).is_file())
+    INSTALLED.iter().all(|name| folder.join(format!("lib{name}.a")).is_file())
 }
 
-/// Has cargo link the libraries of these folders, and run this script again where they change.
-fn link(folders: &[PathBuf]) {
+/// Has cargo link the libraries of these folders, and run this script again if they change.
+fn link(folders: &[PathBuf], libraries: &[&str]) {
     for folder in folders {
         println!("cargo::rustc-link-search=native={}", folder.display());
     }
-    for name in LIBRARIES {
+    for name in libraries {
         println!("cargo::rustc-link-lib=static={name}");
         let files = folders.iter().map(|folder| folder.join(format!("lib{name}.a")));
         for file in files.filter(|file| file.is_file()) {
@@ -51,16 +60,18 @@ fn words(line: &str) -> Vec<String> {
     words
 }
 
-/// The folder of the library that is installed, with this crate's version.
+/// The folder of the library that is installed, if it has this crate's major version and is no older than the crate.
 fn installed() -> Option<PathBuf> {
     if env::var_os("HOST") != env::var_os("TARGET") {
         return None;
     }
     let program = env::var_os("PKG_CONFIG").unwrap_or("pkg-config".into());
-    let package = concat!("gix_index = ", env!("CARGO_PKG_VERSION"));
+    let least = concat!("gix_index >= ", env!("CARGO_PKG_VERSION"));
+    let major: u32 = env!("CARGO_PKG_VERSION_MAJOR").parse().expect("cargo sets it");
+    let next = format!("gix_index < {}", major + 1);
     // (it leaves folders out where compilers look by themselves)
     let mut command = Command::new(program);
-    command.args(["--libs", package]).env("PKG_CONFIG_ALLOW_SYSTEM_LIBS", "1").stdin(Stdio::null());
+    command.args(["--libs", least, &next]).env("PKG_CONFIG_ALLOW_SYSTEM_LIBS", "1").stdin(Stdio::null());
     let said = command.output().ok().filter(|said| said.status.success())?;
     let words = words(&String::from_utf8(said.stdout).ok()?);
     words.iter().filter_map(|word| word.strip_prefix("-L")).map(PathBuf::from).find(|folder| is_in(folder))
@@ -114,17 +125,14 @@ fn main() {
         println!("cargo::rerun-if-env-changed={name}");
     }
     let top = PathBuf::from(env::var_os("CARGO_MANIFEST_DIR").expect("cargo sets it")).join("..");
-    if let Some(folder) = env::var_os("GIX_INDEX_LIB") {
-        link(&[folder.into()]);
+    if let Some(folder) = env::var_os("GIX_INDEX_LIB").map(PathBuf::from) {
+        assert!(is_in(&folder), "GIX_INDEX_LIB is {}, which has no libgix_index.a: {HOW}", folder.display());
+        link(&[folder], &INSTALLED);
     } else if let Some(folder) = installed() {
-        link(&[folder]);
+        link(&[folder], &INSTALLED);
     } else if top.join("tools").join("build").is_file() {
-        link(&built(&top));
+        link(&built(&top), &BUILT);
     } else {
-        panic!(
-            "there is no static library gix_index {}: have the repository's `c/install PREFIX` put it below a PREFIX, \
-             and set PKG_CONFIG_PATH to PREFIX/lib/pkgconfig, or GIX_INDEX_LIB to PREFIX/lib",
-            env!("CARGO_PKG_VERSION")
-        );
+        panic!("there is no static library gix_index {}: {HOW}", env!("CARGO_PKG_VERSION"));
     }
 }

@@ -75,7 +75,7 @@ def make_files(work):
 
 def clone(place):
     """A copy of the repository's files that index-tool is made of, with its scripts."""
-    for name in ("index-tool", "crates.txt", "HANDLES"):
+    for name in ("index-tool", "crates.txt", "HANDLES", "VERSION"):
         shutil.copy2(TOP / name, place / name)
     shutil.copytree(TOP / "tools", place / "tools")
     for crate in crates.needed(TOOL):

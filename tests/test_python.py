@@ -80,16 +80,16 @@ def names(room):
         lines = answer(("nm", "-D", "--defined-only", folder / "libgix_index.so"))[1].decode().split("\n")
         yield f"the shared library has {len(calls())} names", {line.split()[-1] for line in lines if line} == calls()
     version = re.search(r'^#define GIX_INDEX_VERSION "(.*)"$', headers(), re.MULTILINE)[1]
-    wanted = {f"libgix_index.so{end_of}" for end_of in ("", f".{version}", f".{version.rpartition('.')[0]}")}
+    wanted = {f"libgix_index.so{end_of}" for end_of in ("", f".{version}", f".{version.partition('.')[0]}")}
     yield "its files", {path.name for path in folder.glob("libgix_index.so*")} == wanted
     if shutil.which("pkg-config"):
-        env = os.environ | {"PKG_CONFIG_PATH": str(folder / "pkgconfig")}
+        env = os.environ | {"PKG_CONFIG_PATH": str(folder / "pkgconfig"), "LD_LIBRARY_PATH": str(folder)}
         words = answer(("pkg-config", "--cflags", "--libs", "gix_index"), env=env)[1].decode().split()
         source, index = TOP / "c" / "examples" / "sample.c", TOP / "crates" / "index_tool" / "data" / "one.index"
         run(("cc", "-o", room / "shared", source, *words))
         run(("cc", "-o", room / "static", source, words[0], folder / "libgix_index.a"))
         for name in ("shared", "static"):
-            yield f"a {name} caller", answer((room / name, index, "a")) == (0, b"1" * 40 + b"\n", b"")
+            yield f"a {name} caller", answer((room / name, index, "a"), env=env) == (0, b"1" * 40 + b"\n", b"")
         (room / "moved").mkdir()
         shutil.copy(room / "static", room / "moved")
         yield "a caller that needs no library", answer((room / "moved" / "static", index, "b")) == (0, b"none\n", b"")

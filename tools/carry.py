@@ -1,13 +1,14 @@
 #!/usr/bin/env python3
-"""Carries the record of edits that were seen rejected over to a tree that tools/rename.py made of another one.
+# SPDX-License-Identifier: MIT OR Apache-2.0
+"""Carries the record of edits that were seen rejected over to a tree that a map made of another one.
 
 Usage: tools/carry.py OLD --map FILE [--map FILE ..] [--draw FILE] [--seed TEXT]
 
-OLD is the tree before. Run it in the tree after, with its edits mended. A line of OLD's refusals/seen is carried over
-if its sums are those of OLD, and each file of the edit's crate is what the maps make of the old file, except layout,
-comments and the order of imports. If a crate below differs otherwise, the edit waits for its turn. One in ten of the
-lines is drawn at random, and the path of its edit is written to the file (`drawn` without --draw), for refusals/run to
-judge.
+OLD is the tree before, and the maps are those of tools/rename.py or of tools/merge.py. Run it in the tree after, with
+its edits mended. A line of OLD's refusals/seen is carried over if its sums are those of OLD, and each file of the
+edit's crate is what the maps make of the old file, except layout, comments and the order of imports. If a crate below
+differs otherwise, the edit waits for its turn. One in ten of the lines is drawn at random, and the path of its edit is
+written to the file (`drawn` without --draw), for refusals/run to judge.
 """
 import argparse
 import pathlib
@@ -17,11 +18,11 @@ import sys
 
 sys.dont_write_bytecode = True
 import crates
-from imports import leaves_of
-from renaming import Renames, read_map
-from rename import Mover, files_of, new_text, prepared
-from rewriting import Rewriter
-from scopes import ITEMS, Workspace, hidden
+from imports import ITEMS, leaves_of
+from merge import Tree, apply_merge, narrow_function
+from merging import read_merges
+from rename import files_of
+from scopes import hidden
 
 sys.path.insert(0, str(crates.TOP / "refusals"))
 import record
@@ -56,20 +57,36 @@ def is_comment(text, at, ending):
     return re.search(r"//" if ending == ".rt" else r"(?<!\S)--", line) is not None
 
 
-def differing(old, rewriter, mover, top):
+def images(old, maps):
+    """What the maps make of a tree: the texts by their new paths, and the new path of each file."""
+    merges, narrow, names = [], [], []
+    for path in maps:
+        for every, some in zip((merges, narrow, names), read_merges(path)):
+            every += some
+    tree = Tree(old, names)
+    for merge in merges:
+        if apply_merge(tree, merge):
+            sys.exit(f"{merge.where}: tools/merge.py --check lists what is wrong with it")
+    for crate, module, name in narrow:
+        narrow_function(tree.texts, crate, module, name)
+    return tree.texts, {was: path for path, was in tree.was.items()}
+
+
+def is_source(path):
+    return path.startswith("crates/") and path.endswith((".rt", ".antt"))
+
+
+def differing(texts, top):
     """The crates of which a file isn't what the maps make of the old one."""
-    found, images = set(), {}
-    for path in files_of(old):
-        if path.parts[0] == "crates" and path.suffix in (".rt", ".antt") and str(path) in rewriter.sources:
-            images[mover.moved(path)] = new_text(rewriter, mover, old, path)
-    for path, image in images.items():
+    found = set()
+    for path, image in texts.items():
         now = top / path
-        if not now.is_file() or plain(now.read_text(encoding="utf-8"), now.suffix) != plain(image, now.suffix):
-            found.add(path.split("/")[1])
-    for path in files_of(top):
-        if path.parts[0] == "crates" and path.suffix in (".rt", ".antt") and str(path) not in images:
-            found.add(path.parts[1])
-    return found
+        if is_source(path):
+            ending = now.suffix
+            if not now.is_file() or plain(now.read_text(encoding="utf-8"), ending) != plain(image, ending):
+                found.add(path.split("/")[1])
+    others = (str(path) for path in files_of(top))
+    return found | {path.split("/")[1] for path in others if is_source(path) and path not in texts}
 
 
 def below_of(top):
@@ -108,12 +125,12 @@ def is_image(old_edit, new_edit):
     return old_edit.is_right == new_edit.is_right and len(old_edit.pairs) == len(new_edit.pairs)
 
 
-def carried(old, top, rewriter, mover):
+def carried(old, top, texts, paths):
     """The lines that are taken over, and why others aren't."""
     seen, old_edits, new_edits = record.seen(str(old)), edits_of(old), edits_of(top)
-    others, below = differing(old, rewriter, mover, top), below_of(top)
+    others, below = differing(texts, top), below_of(top)
     was = sums_of(old, old_edits, [label for label in seen if label in old_edits])
-    moved = {label: mover.moved(pathlib.Path(label)) for label in was}
+    moved = {label: paths[label] for label in was}
     now = sums_of(top, new_edits, [label for label in moved.values() if label in new_edits])
     found, left = {}, {}
     for label, (edit, sum) in was.items():
@@ -138,10 +155,8 @@ def main():
     parser.add_argument("--seed")
     args = parser.parse_args()
     old, top = args.old.resolve(), crates.TOP
-    lines = [line for path in args.map for line in read_map(path)]
-    draw = pathlib.Path(args.draw).resolve()
-    rewriter = prepared(Rewriter(Renames(Workspace(old, crates.listed(old)), lines)), old)
-    found, left = carried(old, top, rewriter, Mover(rewriter))
+    draw, maps = pathlib.Path(args.draw).resolve(), [pathlib.Path(path).resolve() for path in args.map]
+    found, left = carried(old, top, *images(old, maps))
     kept = {label: sum for label, sum in record.seen(str(top)).items() if (top / label).is_file()}
     with open(top / record.FILE, "w", encoding="utf-8") as out:
         out.writelines(f"{sum.own} {sum.below} {label}\n" for label, sum in sorted({**kept, **found}.items()))

@@ -1,3 +1,4 @@
+# SPDX-License-Identifier: MIT OR Apache-2.0
 """The crates of this repository as crates.txt lists them, and what is built of them."""
 import os
 import pathlib

@@ -1,3 +1,4 @@
+# SPDX-License-Identifier: MIT OR Apache-2.0
 """Finds the imports that their file doesn't need, and takes them out. It goes by the text of the files alone.
 
 An import is needed where its name stands in its file outside of comments and imports. An operator is needed where all

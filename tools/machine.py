@@ -1,3 +1,4 @@
+# SPDX-License-Identifier: MIT OR Apache-2.0
 """What this machine has for programs that run side by side."""
 import contextlib
 import os

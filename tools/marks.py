@@ -1,3 +1,4 @@
+# SPDX-License-Identifier: MIT OR Apache-2.0
 """The marks that tell whether what is built of a crate is made of the files that lie here now.
 
 A mark is the file `sources.sum` beside what was built. Its first line has three sums: over the bytes of the crate's

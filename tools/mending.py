@@ -1,3 +1,4 @@
+# SPDX-License-Identifier: MIT OR Apache-2.0
 """Mends edits whose texts a new layout has broken: the text that is changed stands in one line of the source again."""
 import re
 

@@ -1,3 +1,4 @@
+# SPDX-License-Identifier: MIT OR Apache-2.0
 """Finds the paths and names in the documents that don't exist in the repository.
 
 A path in backquotes is looked at where it begins with a folder of the repository, with the name of a crate, or with

@@ -1,3 +1,4 @@
+# SPDX-License-Identifier: MIT OR Apache-2.0
 """Which crates are proved next, and how many processes work on each."""
 from crates import listed, made_of
 from machine import free_memory, processors

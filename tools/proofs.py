@@ -1,3 +1,4 @@
+# SPDX-License-Identifier: MIT OR Apache-2.0
 """Proves the crates that programs and static libraries stand on, side by side, and builds these."""
 import concurrent.futures
 import contextlib

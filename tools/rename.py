@@ -1,4 +1,5 @@
 #!/usr/bin/env python3
+# SPDX-License-Identifier: MIT OR Apache-2.0
 """Gives crates, modules, definitions and functions other names, in all that names them.
 
 Usage: tools/rename.py --map FILE [--map FILE ..] [--root FOLDER] [--skip] [--wrap] [--check | --inverse | --mend]

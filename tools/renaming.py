@@ -1,3 +1,4 @@
+# SPDX-License-Identifier: MIT OR Apache-2.0
 """The maps of tools/rename.py: which items get which names, and what is wrong with them.
 
 A line of a map is one of these; `#` starts a comment, and names are those before any map:

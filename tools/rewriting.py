@@ -1,3 +1,4 @@
+# SPDX-License-Identifier: MIT OR Apache-2.0
 """Rewrites texts by the renames: sources, definitions and proofs, edits, and prose."""
 import collections
 import re

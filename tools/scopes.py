@@ -1,3 +1,4 @@
+# SPDX-License-Identifier: MIT OR Apache-2.0
 """What the names in the files of crates stand for: the modules of a workspace, their items, and the scope of each file.
 
 An item is a tuple: ("crate", crate), ("module", crate, part, path), ("def", crate, part, path, name) of specs/ or

@@ -1,3 +1,4 @@
+# SPDX-License-Identifier: MIT OR Apache-2.0
 """Finds the public functions of the libraries that no other crate uses. It goes by their names alone.
 
 A function counts as used where its name stands in the sources of another crate, or in the new text of an edit of one.

@@ -1,7 +1,11 @@
+# SPDX-License-Identifier: MIT OR Apache-2.0
 """The arguments of index-tool. Its help, manual page, completions and the table in docs/HOWTO.md are made from them."""
 import collections
 
-PROGRAM, VERSION = "index-tool", "0.55.0"
+from versions import SHOWN
+
+# (the second is what `--version` prints after the first)
+PROGRAM, VERSION = "index-tool", SHOWN
 ABOUT = "List, check, repair and rewrite git's index files"
 STATUS = "The status is 0 where all was done, 1 at a fault of a file or of the output, and 2 at wrong words."
 KINDS = ("sha1", "sha256")

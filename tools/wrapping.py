@@ -1,3 +1,4 @@
+# SPDX-License-Identifier: MIT OR Apache-2.0
 """Breaks lines that are longer than they may be, in definitions, proofs and comments."""
 import re
 

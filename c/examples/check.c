@@ -1,10 +1,11 @@
-/* Checks an index as `index-tool check` does, with its link followed: its entries have to be in order, and its cached
- * tree has to hold together.
+/* SPDX-License-Identifier: MIT OR Apache-2.0 */
+/* Checks an index as `index-tool check` does, with its link followed: the entries have to be in order, and the cached
+ * tree has to be consistent.
  *
  * Usage: check sha1|sha256 FILE
  *
- * It prints ok. The status is 1 where FILE can't be read or doesn't pass, with a line on standard error, and 2 for
- * wrong words. */
+ * It prints ok. The status is 1 if FILE can't be read or doesn't pass, with a line on standard error, and 2 for a usage
+ * error. */
 #define _POSIX_C_SOURCE 200809L
 #include "table.h"
 

@@ -1,9 +1,10 @@
-/* Lists the entries of an index as `git ls-files -s` does, with paths as they are.
+/* SPDX-License-Identifier: MIT OR Apache-2.0 */
+/* Lists the entries of an index as `git ls-files -s` does. Paths are printed without quotes.
  *
  * Usage: list sha1|sha256 FILE
  *
- * The status is 1 where FILE can't be read or is no such index, with a line on standard error, and 2 for wrong
- * words. */
+ * The status is 1 if FILE can't be read or isn't a valid index, with a line on standard error, and 2 for a usage
+ * error. */
 #define _POSIX_C_SOURCE 200809L
 #include "table.h"
 

@@ -1,17 +1,18 @@
-/* Lists the paths in conflict of an index, or settles them in place, under its lock, by one side of the merge.
+/* SPDX-License-Identifier: MIT OR Apache-2.0 */
+/* Lists the paths in conflict of an index, or resolves them in place, under its lock, by one side of the merge.
  *
  * Usage: resolve sha1|sha256 INDEX [base|ours|theirs [PATH..]]
  *
- * With a side, each PATH in conflict, or else each path that is, is staged as that side has it, or is taken out where
- * the side has none. The file in the work tree stays as it is. A line is printed for each path that is in conflict or
- * was settled. The status is 1 where INDEX can't be locked, read or written, with a line on standard error, and 2 for
- * wrong words. */
+ * With a side, each PATH in conflict is staged as that side has it, or removed if the side has none. Without PATH, this
+ * is done for all paths in conflict. The file in the work tree is unchanged. A line is printed for each path that is in
+ * conflict or was resolved. The status is 1 if INDEX can't be locked, read or written, with a line on standard error,
+ * and 2 for a usage error. */
 #define _POSIX_C_SOURCE 200809L
 #include "table.h"
 
 static const char *const sides[] = {"", "base", "ours", "theirs"}; /* by their stages */
 
-/* Whether a row's path is among these, or there are none. */
+/* Returns whether a row's path is one of these, or there are none. */
 static bool is_asked(const gix_index_table *t, const gix_index_row *row, char **paths) {
     if (!*paths) return true;
     for (; *paths; paths++)

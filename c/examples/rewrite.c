@@ -1,12 +1,13 @@
-/* Writes an index to another file, or over itself, by way of a lock that is made before FILE is read; with its cached
- * tree, where that tells what the entries give, and its mark of a sparse index, but no other extension. A link to a
- * shared index is followed.
+/* SPDX-License-Identifier: MIT OR Apache-2.0 */
+/* Writes an index to another file, or over itself, under a lock that is acquired before FILE is read. It preserves the
+ * cached tree, if this matches the entries, and the mark of a sparse index, but no other extension. A link to a shared
+ * index is followed.
  *
  * Usage: rewrite sha1|sha256 FILE OUT [4]
  *
- * The version is 4 where FILE's is or with a last word; else 2, or 3 where the flags ask for it. OUT gets the time of
- * FILE, and keeps its permissions. The status is 1 where FILE can't be read or is no such index, or OUT can't be locked
- * or written, with a line on standard error, and 2 for wrong words. */
+ * The version is 4 if that of FILE is, or with the last argument; else 2, or 3 if the flags require it. OUT gets the
+ * time of FILE, and keeps its permissions. The status is 1 if FILE can't be read or isn't a valid index, or if OUT
+ * can't be locked or written, with a line on standard error. It is 2 for a usage error. */
 #define _POSIX_C_SOURCE 200809L
 #include "table.h"
 

@@ -1,16 +1,17 @@
+/* SPDX-License-Identifier: MIT OR Apache-2.0 */
 /* Prints the id that an index has staged at a path, or none.
  *
  * Usage: sample INDEX PATH
  *
- * INDEX is an index of SHA-1 with at most 10,000 entries; of a split one its own entries alone are looked at. The
- * status is 1 where it can't be read or is no such index, with a line on standard error, and 2 for wrong words. */
+ * INDEX is an index of SHA-1 with at most 10,000 entries. Of a split index only its own entries are read. The status is
+ * 1 if it can't be read or isn't a valid index, with a line on standard error, and 2 for a usage error. */
 #define _POSIX_C_SOURCE 200809L
 #include "table.h"
 
 static gix_index_row rows[10000];
 static uint8_t paths[1000000], text[300];
 
-/* The status of reading an index, and the row that it has at the path, or NULL. */
+/* Returns the status of reading an index, and in found the row at the path, or NULL. */
 static uint32_t row_at(const uint8_t *bytes, size_t len, const char *path, const gix_index_row **found) {
     gix_index_summary said = {0};
     uint32_t status = gix_index_read(bytes, len, GIX_INDEX_SHA1, false, rows, sizeof rows / sizeof *rows,

@@ -1,16 +1,17 @@
+/* SPDX-License-Identifier: MIT OR Apache-2.0 */
 /* Stages or unstages a path in place, under the lock of the index, as `git update-index` does.
  *
  * Usage: stage sha1|sha256 INDEX PATH [ID]
  *
- * PATH is one from the top of the work tree, where this is to be run, as git lists it. With ID, which `git hash-object
- * -w PATH` prints, the file there is staged with its mode and stat (or a submodule, at the commit ID); entries in its
- * way are taken out. Without ID, PATH is taken out, and all that is below it; the work tree stays as it is. A path in a
- * directory of a sparse index is refused. INDEX has to be there. The status is 1 where that can't be done, with a line
- * on standard error, and 2 for wrong words. */
+ * PATH is relative to the top of the work tree, as git lists it. Run this program there. With ID, which `git
+ * hash-object -w PATH` prints, the file there is staged with its mode and stat (or a submodule, at the commit ID).
+ * Entries in its way are removed. Without ID, PATH is removed, and all entries below it; the work tree is unchanged. A
+ * path in a directory of a sparse index is rejected. INDEX has to exist. The status is 1 if that can't be done, with a
+ * line on standard error, and 2 for a usage error. */
 #define _POSIX_C_SOURCE 200809L
 #include "table.h"
 
-/* Puts the stat, mode and id of a file into a row, and says whether there are such. */
+/* Stores the stat, mode and id of a file in a row. Returns whether it succeeded. */
 static bool fill(gix_index_row *row, const char *path, const char *id) {
     struct stat seen;
     size_t digits = row->kind == GIX_INDEX_SHA1 ? 40 : 64;
@@ -34,7 +35,7 @@ int main(int argc, char **argv) {
         if (memcmp(other, path, row.path_len < len ? row.path_len : len) != 0) continue;
         if (row.mode == GIX_INDEX_DIRECTORY && row.path_len <= len) is_done = false;
         row.flags |= GIX_INDEX_REMOVE;
-        /* (the rows that are to go are put in front) */
+        /* (the rows to be removed come first) */
         if (row.path_len == len || (row.path_len > len && other[len] == '/')) t.rows[count++] = row;
     }
     if (is_read && !is_done) fprintf(stderr, "stage: %s: it can't be staged\n", path);

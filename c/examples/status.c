@@ -1,18 +1,25 @@
-/* Says which files of a work tree aren't what its index says, by their stats alone.
+/* SPDX-License-Identifier: MIT OR Apache-2.0 */
+/* Prints which files of a work tree differ from its index, by their stats alone.
  *
  * Usage: status sha1|sha256 FOLDER
  *
- * FOLDER is the top of a work tree, and FOLDER/.git/index its index. For each entry whose file isn't as it was there
- * is a line: a letter, a tab and the path as it is. D: the file is gone. T: it is of another type. M: it changed, or
- * its bit for execution. R: its stat is as it was, but it is no older than the index, so that only its contents can
- * tell. A: it is only meant to be added. U: it is in conflict. Submodules, directories of a sparse index, and
- * entries that are taken for unchanged or are skipped are left alone.
+ * FOLDER is the top of a work tree, and FOLDER/.git/index its index. For each entry whose file differs it prints a
+ * line: a letter, a tab and the path without quotes.
  *
- * The status is 1 where the index can't be read, and 2 for wrong words. */
+ * - D: the file is missing.
+ * - T: it is of another type.
+ * - M: it changed, or its bit for execution.
+ * - R: its stat is equal, but it is no older than the index, so its contents have to be compared.
+ * - A: it is only intended to be added.
+ * - U: it is in conflict.
+ *
+ * Submodules, directories of a sparse index, and entries that are assumed unchanged or skipped are ignored.
+ *
+ * The status is 1 if the index can't be read, and 2 for a usage error. */
 #define _POSIX_C_SOURCE 200809L
 #include "table.h"
 
-/* The letter of an entry whose file has this path, or 0. */
+/* Returns the letter of an entry whose file has this path, or 0. */
 static char letter_of(const gix_index_row *row, const char *path, struct timespec written) {
     const gix_index_comparison by_default = GIX_INDEX_COMPARISON;
     struct stat at;

@@ -1,15 +1,16 @@
-/* What the examples share: a table of an index file, which may be locked, and what is said where something fails. */
+/* SPDX-License-Identifier: MIT OR Apache-2.0 */
+/* What the examples share: a table of an index file, which may be locked, and messages for errors. */
 #ifndef TABLE_H
 #define TABLE_H
 
 #include "gix_index_file.h"
 
-/* The number of a kind by its name, or 0. */
+/* Returns the number of a hash algorithm by its name, or 0. */
 static inline uint32_t kind_of(const char *name) {
     return strcmp(name, "sha1") == 0 ? GIX_INDEX_SHA1 : strcmp(name, "sha256") == 0 ? GIX_INDEX_SHA256 : 0;
 }
 
-/* Says on standard error, behind the name of the program, why a file isn't read or doesn't pass. */
+/* Prints to standard error, after the name of the program, why a file isn't read or doesn't pass. */
 static inline void tell(const char *name, const char *path, uint32_t status, const gix_index_summary *said,
                         const uint8_t *text) {
     const char *whose = said->of_shared ? "its shared index: " : "";
@@ -19,7 +20,7 @@ static inline void tell(const char *name, const char *path, uint32_t status, con
         fprintf(stderr, "%s: %s: %s%.*s\n", name, path, whose, (int)said->text_bytes, (const char *)text);
 }
 
-/* Reads a file into a table, with its link followed. Where there is none, it tells why. */
+/* Reads a file into a table, with its link followed. If that fails, it prints why. */
 static inline bool read_table(const char *name, const char *path, uint32_t kind, gix_index_table *t) {
     uint8_t text[300];
     uint32_t status = gix_index_read_file(path, kind, text, sizeof text, t);
@@ -28,13 +29,13 @@ static inline bool read_table(const char *name, const char *path, uint32_t kind,
     return false;
 }
 
-/* What stands at a lock's path that is no regular file. */
+/* Returns the type of the file at a lock's path, which isn't a regular file. */
 static inline const char *name_of(const gix_index_lock *lock) {
     mode_t mode = lock->mode;
     return S_ISDIR(mode) ? "directory" : S_ISFIFO(mode) ? "fifo" : S_ISSOCK(mode) ? "socket" : "device";
 }
 
-/* Locks a file. Where that can't be done, it tells why. */
+/* Locks a file. If that fails, it prints why. */
 static inline bool lock_file(const char *name, const char *path, gix_index_lock *lock) {
     uint32_t status = gix_index_lock_file(path, lock);
     const char *at = lock->lock_path ? lock->lock_path : lock->path ? lock->path : path;
@@ -50,25 +51,25 @@ static inline bool lock_file(const char *name, const char *path, gix_index_lock 
     return status == GIX_INDEX_DONE;
 }
 
-/* Locks a file, and reads it. The lock is to be given up and the table to be dropped in each case. */
+/* Locks a file and reads it. Call release in each case. */
 static inline bool read_locked(const char *name, const char *path, uint32_t kind, gix_index_lock *lock,
                                gix_index_table *t) {
     memset(t, 0, sizeof *t);
     return lock_file(name, path, lock) && read_table(name, lock->path, kind, t);
 }
 
-/* Whether a row has this path. */
+/* Returns whether a row has this path. */
 static inline bool is_at(const gix_index_table *t, const gix_index_row *row, const void *path, size_t len) {
     return row->path_len == len && memcmp(t->paths + row->path_start, path, len) == 0;
 }
 
-/* Gives a lock and a table up. */
+/* Releases a lock and drops a table. */
 static inline void release(gix_index_lock *lock, gix_index_table *t) {
     gix_index_rollback(lock);
     gix_index_drop_table(t);
 }
 
-/* Says why a file isn't written, and whether it is. */
+/* Returns whether a file was written. If it wasn't, it prints why. */
 static inline bool is_written(const char *name, const char *path, uint32_t status, const gix_index_written *told) {
     if (status == GIX_INDEX_REFUSED)
         fprintf(stderr, "%s: %s: %s (%zu)\n", name, path,
@@ -81,7 +82,7 @@ static inline bool is_written(const char *name, const char *path, uint32_t statu
     return status == GIX_INDEX_DONE;
 }
 
-/* Makes changes of the index that is locked, and writes it. Where that can't be done, it tells why. */
+/* Changes the index that is locked, and writes it. If that fails, it prints why. */
 static inline bool commit_changes(const char *name, const char *path, gix_index_lock *lock, uint32_t kind,
                                   const gix_index_row *rows, size_t count, const void *paths, size_t paths_len) {
     gix_index_written told;
@@ -89,8 +90,8 @@ static inline bool commit_changes(const char *name, const char *path, gix_index_
     return is_written(name, path, status, &told);
 }
 
-/* Writes a table in place of the file that is locked, in the version that it was read from, or in a larger one. Where
- * it isn't written, it tells why. */
+/* Writes a table in place of the file that is locked, in the version that was read, or in a larger one. If that fails,
+ * it prints why. */
 static inline bool commit_table(const char *name, const char *path, gix_index_lock *lock, const gix_index_table *t,
                                 uint32_t kind, uint32_t version) {
     gix_index_form form = {kind, t->said.version > version ? t->said.version : version, false};

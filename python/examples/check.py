@@ -1,3 +1,4 @@
+# SPDX-License-Identifier: MIT OR Apache-2.0
 """Checks an index as `index-tool check` does, with its link followed: its entries have to be in order, and its cached
 tree has to hold together.
 

@@ -1,3 +1,4 @@
+# SPDX-License-Identifier: MIT OR Apache-2.0
 """Lists the entries of an index as `git ls-files -s` does, with paths as they are. A link is followed.
 
 Usage: list.py sha1|sha256 FILE

@@ -1,3 +1,4 @@
+# SPDX-License-Identifier: MIT OR Apache-2.0
 """Lists the paths in conflict of an index, or settles them in place, under its lock, by one side of the merge.
 
 Usage: resolve.py sha1|sha256 INDEX [base|ours|theirs [PATH..]]

@@ -1,3 +1,4 @@
+# SPDX-License-Identifier: MIT OR Apache-2.0
 """Says which files of a work tree aren't what its index says, by their stats alone.
 
 Usage: status.py sha1|sha256 FOLDER

@@ -1,7 +1,8 @@
-"""The git index: its entries, read, searched, changed and written by functions that are proved to meet their contracts.
+# SPDX-License-Identifier: MIT OR Apache-2.0
+"""The git index: reads, searches, changes and writes its entries by functions that are proved to meet their contracts.
 
-`Index` is a copy of the entries of an index file, in memory of its own. This module calls the shared library that
-`c/install PREFIX` builds, and is itself only tested. It takes Python 3.8 or later, and nothing beside it.
+`Index` is a copy of the entries of an index file that owns its memory. This module calls the shared library that
+`c/install PREFIX` builds. The module itself is only tested. It needs Python 3.8 or later, and no other package.
 
     from gix_index import Index
 
@@ -9,24 +10,28 @@
         index.unstage("README")
         index.commit()
 
-`Index.write_trees` gives the objects that `git write-tree` makes of the entries, the root's last.
+`Index.write_trees` returns the objects that `git write-tree` makes of the entries, with the root as the last.
 
-What is read under the lock is what is replaced, so that nothing that git writes is lost. Version 4 and all extensions
-are kept as git keeps them, and a split index becomes whole.
+The index that is replaced is the one that was read under the lock, so no change by git is lost. Version 4 and all
+extensions are preserved as git preserves them. A split index becomes a complete one.
 
-Paths of entries are bytes, from the work tree's top on and with slashes. Where a call takes one, it takes a str too, as
-`os.fsencode` encodes it.
+Paths of entries are bytes, relative to the top of the work tree, with slashes. A call that takes a path also takes a
+str, as `os.fsencode` encodes it.
 
-The library is libgix_index.so of this version: in the folder that GIX_INDEX_LIB names, or else in one of those that are
-above this one, or else where the system's loader finds it.
+The shared library has the major version of the module, and at least its minor version. It is searched for in this
+order:
+
+- in the directory that GIX_INDEX_LIB names,
+- in this directory and in each directory above it,
+- as the system's loader finds it.
 """
 from ._check import check, check_file
 from ._index import Index, Locked
-from ._library import NUMBERS, VERSION
+from ._library import NUMBERS, UPSTREAM_VERSION, VERSION
 from ._values import Comparison, Entry, Error, Flags, Kind, Mode, Refused, Stat
 
 __all__ = [
-    "NUMBERS", "Comparison", "Entry", "Error", "Flags", "Index", "Kind", "Locked", "Mode", "Refused", "Stat", "check",
-    "check_file"
+    "NUMBERS", "UPSTREAM_VERSION", "Comparison", "Entry", "Error", "Flags", "Index", "Kind", "Locked", "Mode",
+    "Refused", "Stat", "check", "check_file"
 ]
 __version__ = VERSION

@@ -1,4 +1,5 @@
-"""Checking an index, from bytes and from its path."""
+# SPDX-License-Identifier: MIT OR Apache-2.0
+"""Checks an index, from bytes and from its path."""
 from __future__ import annotations
 
 import ctypes
@@ -17,10 +18,10 @@ def _check(path: Optional[FilePath], call: Callable[..., int]) -> None:
 
 
 def check(data: Bytes, kind: Optional[Kind] = None, shared: Optional[Bytes] = None) -> None:
-    """Checks an index, given as all bytes of its file, or one with the shared index that it links to.
+    """Checks an index, given as all bytes of its file, or an index with the shared index that it links to.
 
-    Its entries have to increase strictly by path, then stage, and its cached tree has to hold together; else it raises
-    `Refused`. Without a kind it is the one by which the bytes pass.
+    The entries have to increase strictly by path, then stage, and the cached tree has to be consistent. Otherwise it
+    raises `Refused`. Without a kind, the hash algorithm is the one with which the bytes pass.
     """
     words = (at(data), len(data)) if shared is None else (at(data), len(data), at(shared), len(shared))
     call = library().gix_index_check if shared is None else library().gix_index_check_split
@@ -28,6 +29,6 @@ def check(data: Bytes, kind: Optional[Kind] = None, shared: Optional[Bytes] = No
 
 
 def check_file(path: FilePath, kind: Optional[Kind] = None) -> None:
-    """The same of the index at a path, as `index-tool check` does. A link to a shared index is followed."""
+    """Checks the index at a path, as `index-tool check` does. A link to a shared index is followed."""
     name, call = file_path(path), library().gix_index_check_file
     by_kind(kind, lambda kind: _check(path, lambda *room: call(name, kind.number, *room)))

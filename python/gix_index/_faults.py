@@ -1,4 +1,5 @@
-"""What a status of a call raises, and how a kind is found."""
+# SPDX-License-Identifier: MIT OR Apache-2.0
+"""The exceptions for the statuses of calls, and how a hash algorithm is found."""
 from __future__ import annotations
 
 import ctypes
@@ -14,7 +15,7 @@ _T = TypeVar("_T")
 
 
 class Status(enum.IntEnum):
-    """What a call answers."""
+    """The statuses of calls."""
 
     DONE = NUMBERS["GIX_INDEX_DONE"]
     REFUSED = NUMBERS["GIX_INDEX_REFUSED"]
@@ -27,7 +28,7 @@ class Status(enum.IntEnum):
 
 
 def file_path(path: FilePath) -> bytes:
-    """A path as C takes it."""
+    """Returns a path as C takes it."""
     name = os.fsencode(path)
     if b"\0" in name:
         raise ValueError("embedded null byte")
@@ -35,18 +36,18 @@ def file_path(path: FilePath) -> bytes:
 
 
 class Text:
-    """Room for the words of a fault."""
+    """Memory for the message of an error."""
 
     def __init__(self) -> None:
         self.room = ctypes.create_string_buffer(8192)
 
     def of(self, said: Summary) -> str:
-        """Those that were written."""
+        """Returns the message that was written."""
         return self.room.raw[: said.text_bytes].decode(errors="replace")
 
 
 def fault_of(status: int, path: Optional[FilePath], said: Any, text: str) -> Exception:
-    """Why a call of a status didn't do what it says; of the system's faults errno tells the number."""
+    """Returns the exception for a status other than success. For an error of the system it has errno."""
     of_shared = bool(getattr(said, "of_shared", 0))
     if status == Status.MEMORY:
         return MemoryError("out of memory for an index")
@@ -84,7 +85,7 @@ def _why(texts: Dict[str, str], told: Union[Given, Written]) -> str:
 
 
 def raise_unwritten(status: int, told: Written, path: Optional[FilePath] = None) -> None:
-    """Raises why a table wasn't written, unless it was."""
+    """Raises an exception if a table wasn't written."""
     if status == Status.WRONG_NUMBER:
         raise ValueError("the version of an index is 2, 3 or 4")
     if status != Status.DONE:
@@ -92,15 +93,16 @@ def raise_unwritten(status: int, told: Written, path: Optional[FilePath] = None)
 
 
 def raise_ungiven(status: int, told: Given) -> None:
-    """Raises why no trees were given, unless they were."""
+    """Raises an exception if no trees were returned."""
     if status != Status.DONE:
         raise fault_of(status, None, told, _why(_WHY_NO_TREES, told))
 
 
 def by_kind(kind: Optional[Kind], call: Callable[[Kind], _T]) -> _T:
-    """What a call answers of a kind; without one, of SHA-1, or where it refuses that, of SHA-256.
+    """Returns the result of a call with a hash algorithm. Without one, tries SHA-1 and then SHA-256.
 
-    Where it refuses both, the fault is that of the kind whose digest the bytes end in, if one does.
+    If both are rejected, the exception is that of the algorithm with which the digest of the bytes matches, if there is
+    one.
     """
     if kind is not None:
         return call(kind)

@@ -1,3 +1,4 @@
+# SPDX-License-Identifier: MIT OR Apache-2.0
 """An index, and one that is locked."""
 from __future__ import annotations
 
@@ -14,8 +15,8 @@ from ._values import NANOSECONDS, Entry, FilePath, Flags, Kind, Mode, Path, Stat
 class Index(Sequence[Entry]):
     """The entries of an index, in the order of its file, as a sequence.
 
-    Searches and changes take entries that strictly increase by path, byte by byte, and then by stage, as those of a
-    sound index do; `check` says whether an index's do.
+    Searches and changes require entries that strictly increase by path, byte by byte, and then by stage, as those of a
+    valid index do. `check` checks whether an index's entries do.
     """
 
     kind: Kind  #: of the ids
@@ -24,16 +25,17 @@ class Index(Sequence[Entry]):
     shared_id: Optional[bytes]  #: the id of the shared index that the bytes link to and that wasn't read
 
     def __init__(self, kind: Kind = Kind.SHA1) -> None:
-        """An index with no entry."""
+        """Makes an index with no entry."""
         self.kind, self.version, self.mtime_ns, self.shared_id = kind, 2, 0, None
-        # (a row is as C has it, its path's place among the paths)
+        # (a row is in the layout of C, with the offset of its path in the paths)
         self._rows, self._paths, self._base, self._is_part = bytearray(), bytearray(), b"", False
 
     @classmethod
     def from_bytes(cls, data: Bytes, kind: Optional[Kind] = None, shared: Optional[Bytes] = None) -> Index:
-        """Reads an index from all bytes of its file, and of the shared index that it links to, where these are given.
+        """Reads an index from all bytes of its file, and of the shared index that it links to, if these are given.
 
-        Without a kind it is the one as which the bytes are read. Bytes that are no index are `Refused`.
+        Without a kind, the hash algorithm is the one with which the bytes can be read. If they are no index, it raises
+        `Refused`.
         """
 
         def read(kind: Kind) -> Index:
@@ -45,10 +47,11 @@ class Index(Sequence[Entry]):
 
     @classmethod
     def open(cls, path: FilePath, kind: Optional[Kind] = None) -> Index:
-        """Reads the index at a path. A link to a shared index is followed: that is the file sharedindex.ID beside it.
+        """Reads the index at a path. A link to a shared index is followed.
 
-        Without a kind it is the one as which the file is read. Bytes that are no index are `Refused`; an OSError is of
-        the file system.
+        The shared index is the file sharedindex.ID in the same directory. Without a kind, the hash algorithm is the one
+        with which the file can be read. If the bytes are no index, it raises `Refused`. An error of the file system is
+        an OSError.
         """
 
         def read(kind: Kind) -> Index:
@@ -62,10 +65,11 @@ class Index(Sequence[Entry]):
     def lock(cls, path: FilePath, kind: Optional[Kind] = None, missing_ok: bool = False) -> Locked:
         """Locks the index at a path, as git locks it, and reads it.
 
-        In a `with` statement the lock file is removed at its end, and the index stays as it was, unless
-        `Locked.commit` was called. Symbolic links are followed first, five at most. FileExistsError: the lock file is
-        there, as another process writes the index, or died while it did. Where no file is at the path, this is
-        FileNotFoundError, or with missing_ok an index with no entry.
+        At the end of a `with` statement the lock file is removed. The index is unchanged unless `Locked.commit` was
+        called. Symbolic links are followed first, at most five.
+
+        - FileExistsError: the lock file exists. Another process writes the index, or died while it did.
+        - FileNotFoundError: there is no file at the path. With missing_ok the result is an index with no entry instead.
         """
         lock = _Held(path)
         try:
@@ -80,7 +84,7 @@ class Index(Sequence[Entry]):
         words = (data, len(data)) if shared is None else (data, len(data), shared, len(shared))
         call = library().gix_index_read if shared is None else library().gix_index_read_split
         rows, paths, text, said = bytearray(), bytearray(), Text(), Summary()
-        # (the sizes come first, without digests, unless there is a fault: a wrong digest is told before all others)
+        # (the first call returns the sizes, and checks digests only if it fails: a wrong digest comes before others)
         for skip_hash in (True, False, False):
             room = (at(rows), len(rows) // ROW.size, at(paths), len(paths), text.room, len(text.room))
             status = call(*words, self.kind.number, skip_hash, *room, ctypes.byref(said))
@@ -138,7 +142,7 @@ class Index(Sequence[Entry]):
     def __getitem__(self, place: Union[int, slice]) -> Union[Entry, List[Entry]]:
         if isinstance(place, slice):
             return [self[each] for each in range(*place.indices(len(self)))]
-        # (a range raises an IndexError of a place that isn't there)
+        # (a range raises an IndexError for an index that is out of range)
         return self._entry(ROW.unpack_from(self._rows, range(len(self))[place] * ROW.size))
 
     def __repr__(self) -> str:
@@ -146,25 +150,25 @@ class Index(Sequence[Entry]):
 
     @property
     def entries(self) -> List[Entry]:
-        """All entries."""
+        """Returns all entries."""
         return list(self)
 
     def find(self, path: Path, stage: int = 0) -> Optional[Entry]:
-        """The entry at the path and the stage, or None."""
+        """Returns the entry with the path and the stage, or None."""
         name = os.fsencode(path)
         place = library().gix_index_find(*self._table(), name, len(name), stage)
         return self[place] if place < len(self) else None
 
     def prefix(self, prefix: Path) -> List[Entry]:
-        """The entries whose path begins with the bytes of the prefix."""
+        """Returns the entries whose path begins with the bytes of the prefix."""
         name, places = os.fsencode(prefix), Places()
         status = library().gix_index_find_prefix(*self._table(), name, len(name), ctypes.byref(places))
         return self[places.start : places.end] if status == Status.DONE else []
 
     def closest(self, directory: Path, ignore_case: bool = False) -> Optional[Entry]:
-        """The first entry that stands for the directory, a sparse one or a submodule; else the first one below it.
+        """Returns the first entry that is the directory (sparse, or a submodule), or else the first entry below it.
 
-        With ignore_case the case of ASCII letters is, and it is the first entry of either sort.
+        With ignore_case the case of ASCII letters is ignored, and the result is the first entry of either sort.
         """
         name = os.fsencode(directory)
         call = library().gix_index_closest_icase if ignore_case else library().gix_index_closest
@@ -174,24 +178,24 @@ class Index(Sequence[Entry]):
     # ---- Changes
 
     def _place(self, path: bytes, stage: int = 0) -> int:
-        """The place before which all entries come that are less than this path and stage."""
+        """Returns the number of entries that are less than this path and stage."""
         return library().gix_index_lower_bound(*self._table(), path, len(path), stage)
 
     def _take_out(self, start: int, end: int) -> int:
-        """Takes out the entries from a place up to another, which are all that have their paths, and says how many."""
+        """Removes the entries of a range, which are all that have their paths, and returns how many they were."""
         del self._rows[start * ROW.size : end * ROW.size]
         return end - start
 
     def _put(self, start: int, end: int, row: bytes) -> None:
-        """Puts an entry in the place of those from a place up to another."""
+        """Replaces the entries of a range by one entry."""
         self._rows[start * ROW.size : end * ROW.size] = row
 
     def _cut(self, path: bytes) -> int:
-        """Takes out the entries at a path, at each stage, and says how many."""
+        """Removes the entries at a path, at each stage, and returns how many they were."""
         return self._take_out(self._place(path), self._place(path, 4))
 
     def _directories(self, path: bytes) -> List[bytes]:
-        """The directories above a path, where none of them is one of a sparse index."""
+        """Returns the directories above a path. If one is a directory of a sparse index, it raises a ValueError."""
         ends = [end for end, byte in enumerate(path) if byte == ord("/")]
         for end in ends:
             entry = self.find(path[: end + 1])
@@ -200,21 +204,21 @@ class Index(Sequence[Entry]):
         return [path[:end] for end in ends]
 
     def unstage(self, path: Path) -> int:
-        """Takes out the entries at a path, in conflict or not, and all below it. The answer says how many they were.
+        """Removes the entries at a path, in conflict or not, and all below it. Returns how many they were.
 
         A path in a directory of a sparse index is a ValueError.
         """
         name = os.fsencode(path)
         self._directories(name)
-        # (0 is the byte behind the slash)
+        # (0 is the byte after the slash)
         return self._take_out(self._place(name + b"/"), self._place(name + b"0")) + self._cut(name)
 
     def stage(self, *entries: Entry) -> None:
-        """Puts entries in, each in place of those that are in its way.
+        """Adds entries. Each replaces the entries that are in its way.
 
-        Those are the ones at its path and its stage, and for an entry that isn't in conflict the ones at its path at
-        each stage, those below it, and those at the directories above it. A path in a directory of a sparse index, and
-        an id of another length than those of the index, are a ValueError.
+        These are the ones with its path and its stage. An entry that isn't in conflict also replaces the ones with its
+        path at each stage, those below it, and those at the directories above it. A path in a directory of a sparse
+        index, and an id with another length than those of the index, are a ValueError.
         """
         for entry in entries:
             (path, id, mode, flags, seen), stage = entry, entry.stage
@@ -243,12 +247,11 @@ class Index(Sequence[Entry]):
         return Form(self.kind.number, (4 if self.version == 4 else 2) if version is None else version, skip_hash)
 
     def to_bytes(self, version: Optional[int] = None, skip_hash: bool = False) -> bytes:
-        """All bytes of the index as a file.
+        """Returns all bytes of the index as a file.
 
-        Where it was read from bytes, their mark of a sparse index is kept, and their cached tree if it tells what the
-        entries give. The version is 4 or 2, of which the latter is 3 where an entry's flags ask for it; without one it
-        stays 4. With skip_hash zeros stand in place of the digest. Entries out of order, or that can't stand in a file,
-        are `Refused`.
+        If the index was read from bytes, their mark of a sparse index is preserved, and their cached tree if it matches
+        the entries. The version is 4 or 2; 2 becomes 3 if the flags of an entry require it. Without a version it stays
+        4. With skip_hash the digest is zeros. If entries are out of order, or can't be in a file, it raises `Refused`.
         """
         form, told, base = self._form(version, skip_hash), Written(), self._base
         call = library().gix_index_write_over if base else library().gix_index_write
@@ -261,12 +264,12 @@ class Index(Sequence[Entry]):
         return bytes(room[: told.bytes])
 
     def write_trees(self) -> List[Tuple[bytes, bytes]]:
-        """The trees that `git write-tree` makes of the entries, each by its id and with its bytes.
+        """Returns the trees that `git write-tree` makes of the entries: the id and the bytes of each.
 
-        Each stands behind those that it names, so that the last is the root's, and a store can take them in this order.
-        The bytes are those that `git cat-file tree` prints. An entry with Flags.INTENT_TO_ADD stands in no tree.
-        Whether the objects that entries name are there isn't looked at. Entries out of order, or that can't stand in a
-        tree, as those in conflict, are `Refused`.
+        Each follows the trees that it names, so that the root is the last, and a store can take them in this order. The
+        bytes are those that `git cat-file tree` prints. An entry with Flags.INTENT_TO_ADD is in no tree. Whether the
+        objects that entries name exist isn't checked. If entries are out of order, or can't be in a tree, such as those
+        in conflict, it raises `Refused`.
         """
         self._ask_whole()
         told, trees, room, status = Given(), (Tree * 0)(), bytearray(), Status.NO_ROOM
@@ -280,7 +283,7 @@ class Index(Sequence[Entry]):
 
 
 class _Held:
-    """A lock file, and what is locked by it."""
+    """A lock file, and the file that it locks."""
 
     def __init__(self, path: FilePath) -> None:
         self.at, self.owner = Lock(), os.getpid()
@@ -294,21 +297,21 @@ class _Held:
         self.path = os.fsdecode(self.at.path)
 
     def give_up(self) -> None:
-        """Removes the lock file, if it is held still. A process that was forked leaves it to its parent."""
+        """Removes the lock file, if it is still held. A forked process leaves it to its parent."""
         if os.getpid() == self.owner:
             library().gix_index_rollback(ctypes.byref(self.at))
 
 
 class Locked(Index):
-    """An index that is locked, as `Index.lock` makes it, until it is committed or closed.
+    """An index that is locked by `Index.lock`, until it is committed or closed.
 
-    It is made for a `with` statement, which closes it at its end.
+    Use it in a `with` statement, which closes it at its end.
     """
 
     def __init__(self, lock: _Held, kind: Kind, missing_ok: bool) -> None:
         super().__init__(kind)
         self.path = lock.path  #: the file that is locked: the path that was given, behind all symbolic links
-        # (where nothing is at the path, its mode is 0)
+        # (if there is nothing at the path, its mode is 0)
         if lock.at.mode or not missing_ok:
             self._fill_from(lock.path)
         self._lock, self._changes = lock, bytearray()
@@ -324,7 +327,7 @@ class Locked(Index):
             self.close()
 
     def close(self) -> None:
-        """Gives the lock up: where it is held still, the index stays as it was, and the lock file is removed."""
+        """Releases the lock. If it is still held, the index is unchanged, and the lock file is removed."""
         self._lock.give_up()
 
     def _take_out(self, start: int, end: int) -> int:
@@ -340,16 +343,16 @@ class Locked(Index):
         super()._put(start, end, row)
 
     def commit(self, version: Optional[int] = None, skip_hash: bool = False, sync: bool = False) -> None:
-        """Writes this in place of the index that is locked, and ends the lock.
+        """Replaces the index that is locked, and ends the lock.
 
-        What speaks of the entries is kept as git keeps it where it makes the same changes: the cached tree and the
-        untracked cache lose what isn't so any more, and sides of conflicts that went are recorded, so that `git
-        checkout -m` gets them back. A change that git refuses is `Refused`. With a version, or with skip_hash, what is
-        written is what `Index.to_bytes` gives.
+        Extensions are preserved as git preserves them when it makes these changes. The cached tree and the untracked
+        cache lose what isn't valid any more. Sides of conflicts that were removed are recorded, so that `git checkout
+        -m` restores them. A change that git rejects is `Refused`. With a version, or with skip_hash, the bytes of
+        `Index.to_bytes` are written.
 
-        The file keeps its permissions, and the time of the index that was read, so that git looks at each file that it
-        would have looked at before. With sync it is on the disk before it takes its place. After an exception the index
-        is as it was, and the lock is ended too.
+        The file keeps its permissions, and the time of the index that was read, so git compares each file that it would
+        have compared before. With sync it is on the disk before it replaces the index. After an exception the index is
+        unchanged, and the lock is ended too.
         """
         form, told = self._form(version, skip_hash), Written()
         if not self._lock.at.is_held:
@@ -363,9 +366,9 @@ class Locked(Index):
             self._commit_table(form, told, sync)
 
     def _commit_table(self, form: Form, told: Written, sync: bool) -> None:
-        """Writes the entries over the index that was read, without a look at how they came."""
+        """Writes the entries over the index that was read, whichever changes led to them."""
         table = Table()
-        # (these names keep the memory that the table points to)
+        # (these names keep the memory alive that the table points to)
         rows, paths, base = at(self._rows), at(self._paths), ctypes.c_char_p(self._base)
         table.rows, table.paths = (ctypes.addressof(room) if room else None for room in (rows, paths))
         table.bytes = ctypes.cast(base, ctypes.c_void_p).value if self._base else None

@@ -1,3 +1,4 @@
+# SPDX-License-Identifier: MIT OR Apache-2.0
 """The shared library: the numbers, structures and calls of its headers, by their names there."""
 from __future__ import annotations
 
@@ -8,7 +9,8 @@ import pathlib
 import struct
 from typing import Any, Optional, Union
 
-VERSION = "0.55.0"
+VERSION = "1.0.0"
+UPSTREAM_VERSION = "0.55.0"
 
 # The numbers of the headers in C, by their names there.
 NUMBERS = {
@@ -173,7 +175,7 @@ assert ROW.size == ctypes.sizeof(Row)
 
 _AT, _LEN, _U32, _BOOL = ctypes.c_void_p, ctypes.c_size_t, ctypes.c_uint32, ctypes.c_bool
 _ROWS = (_AT, _LEN, _AT, _LEN)
-# What each call answers and takes.
+# The result and the arguments of each call.
 CALLS = {
     "gix_index_version": (_U32,),
     "gix_index_read": (_U32, _AT, _LEN, _U32, _BOOL, *_ROWS, _AT, _LEN, _AT),
@@ -205,8 +207,9 @@ CALLS = {
 
 @functools.lru_cache(maxsize=None)
 def library() -> ctypes.CDLL:
-    """The shared library, by whose calls errno is kept."""
-    name = f"libgix_index.so.{VERSION.rpartition('.')[0]}"
+    """Returns the shared library. Its calls preserve errno."""
+    major, minor, patch = map(int, VERSION.split("."))
+    name = f"libgix_index.so.{major}"
     asked = os.environ.get("GIX_INDEX_LIB")
     folders = [pathlib.Path(asked)] if asked else pathlib.Path(__file__).resolve().parents
     there = next((folder / name for folder in folders if (folder / name).is_file()), name)
@@ -215,22 +218,24 @@ def library() -> ctypes.CDLL:
     except OSError as error:
         what = f"{error}: `c/install PREFIX` builds it, and GIX_INDEX_LIB may name its folder, PREFIX/lib"
         raise ImportError(what, name="gix_index") from error
+    # (each later minor version has the same calls and structures)
+    number = loaded.gix_index_version()
+    if number >> 16 != major or number < major << 16 | minor << 8 | patch:
+        what = f"{there} has version {number >> 16}.{number >> 8 & 255}.{number & 255}, and {VERSION} or later is needed"
+        raise ImportError(f"{what}: `c/install PREFIX` builds it", name="gix_index")
     for call, (answer, *words) in CALLS.items():
         function = getattr(loaded, call)
         function.restype, function.argtypes = answer, words
-    major, minor, patch = map(int, VERSION.split("."))
-    if loaded.gix_index_version() != major << 16 | minor << 8 | patch:
-        raise ImportError(f"{there} is another version than {VERSION}: `c/install PREFIX` builds this", name="gix_index")
     return loaded
 
 
 def at(data: Bytes) -> Any:
-    """What a pointer to bytes is called with, which go with their length. A bytearray is written through, too."""
+    """Returns a pointer to bytes as an argument, whose length is another argument. C can write to a bytearray."""
     if isinstance(data, bytearray):
         return (ctypes.c_char * len(data)).from_buffer(data) if data else None
     return bytes(data)
 
 
 def bytes_at(address: Optional[int], size: int) -> bytes:
-    """The bytes at an address of the library's, which is None where there are none."""
+    """Returns the bytes at an address in the library's memory. The address is None if there are none."""
     return ctypes.string_at(address, size) if address and size else b""

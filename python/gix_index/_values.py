@@ -1,4 +1,5 @@
-"""Kinds, modes, flags, stats and entries, and what is raised."""
+# SPDX-License-Identifier: MIT OR Apache-2.0
+"""Hash algorithms, modes, flags, stats, entries and exceptions."""
 from __future__ import annotations
 
 import ctypes
@@ -17,30 +18,30 @@ NANOSECONDS = 1_000_000_000
 
 
 class Kind(enum.Enum):
-    """Which hash function a repository names its objects by."""
+    """The hash algorithm of a repository's ids."""
 
     SHA1 = "sha1"
     SHA256 = "sha256"
 
     @property
     def len_in_bytes(self) -> int:
-        """How many bytes an id of this kind has."""
+        """Returns the number of bytes of an id."""
         return 20 if self is Kind.SHA1 else 32
 
     @property
     def number(self) -> int:
-        """The number that the library has for it."""
+        """Returns the number that the library has for the hash algorithm."""
         return NUMBERS[f"GIX_INDEX_{self.name}"]
 
     def blob_id(self, data: bytes) -> bytes:
-        """The id that git has for a file of these bytes. What filters make of a file is the caller's."""
+        """Returns the id that git has for a file with these bytes. The caller applies filters."""
         id = (ctypes.c_uint8 * 32)()
         library().gix_index_blob_id(self.number, data, len(data), id)
         return bytes(id)[: self.len_in_bytes]
 
 
 class Mode(enum.IntEnum):
-    """The mode of an entry's file: the kind, and whether its owner may run it."""
+    """The mode of an entry's file: its type, and whether its owner may run it."""
 
     DIRECTORY = NUMBERS["GIX_INDEX_DIRECTORY"]  #: a directory of a sparse index
     FILE = NUMBERS["GIX_INDEX_FILE"]
@@ -50,9 +51,9 @@ class Mode(enum.IntEnum):
 
     @classmethod
     def of(cls, seen: os.stat_result) -> Optional[Mode]:
-        """The mode of an entry of what stands there, by what `os.lstat` says: of a directory that of a submodule.
+        """Returns the mode of an entry for the result of `os.lstat`. A directory gets that of a submodule.
 
-        None where it is a device, a fifo or a socket.
+        Returns None for a device, a fifo or a socket.
         """
         if stat.S_ISREG(seen.st_mode):
             return cls.EXECUTABLE if seen.st_mode & stat.S_IXUSR else cls.FILE
@@ -60,10 +61,10 @@ class Mode(enum.IntEnum):
 
     @staticmethod
     def matching(mode: int, seen: os.stat_result, has_symlinks: bool = True, executable_bit: bool = True) -> int:
-        """The mode that an entry of this mode takes to be that of what is seen, by `os.lstat`; the same where it fits.
+        """Returns the mode that an entry has to get to match the result of `os.lstat`. It is its own if they match.
 
-        Without has_symlinks a file stands for a link, and without executable_bit a file's mode stays as it is, as
-        git's `core.symlinks` and `core.fileMode` have it.
+        Without has_symlinks a file counts as a link. Without executable_bit a file's mode is unchanged. These are git's
+        `core.symlinks` and `core.fileMode`.
         """
         kinds = (stat.S_ISREG(seen.st_mode), stat.S_ISDIR(seen.st_mode), stat.S_ISLNK(seen.st_mode))
         # (a link has all bits)
@@ -73,7 +74,7 @@ class Mode(enum.IntEnum):
 
 
 class Flags(enum.IntFlag):
-    """Flags of an entry; those of STAGE_MASK are its stage."""
+    """The flags of an entry. The bits of STAGE_MASK are its stage."""
 
     STAGE_MASK = NUMBERS["GIX_INDEX_STAGE_MASK"]
     EXTENDED = NUMBERS["GIX_INDEX_EXTENDED"]  #: the file has a second word of flags of the entry
@@ -83,9 +84,9 @@ class Flags(enum.IntFlag):
 
 
 class Comparison(NamedTuple):
-    """What of a stat is compared beside the time of the last change and the size: by default what git compares.
+    """Which numbers of a stat are compared in addition to the last change and the size. The default is git's.
 
-    It is git's `core.trustctime` and `core.checkStat`.
+    They are git's `core.trustctime` and `core.checkStat`.
     """
 
     trust_ctime: bool = True  #: the ctime is
@@ -95,7 +96,7 @@ class Comparison(NamedTuple):
 
     @property
     def told(self) -> _Comparison:
-        """The library's."""
+        """Returns the library's structure."""
         return _Comparison(*self)
 
 
@@ -103,7 +104,7 @@ BY_DEFAULT = Comparison()
 
 
 class Stat(NamedTuple):
-    """What the file system said of an entry's file, each number in the 32 bits that an index stores."""
+    """The stat of an entry's file, with the 32 bits of each number that an index stores."""
 
     ctime_secs: int = 0  #: when the file's own data changed last, in seconds since the begin of 1970
     ctime_nsecs: int = 0
@@ -117,21 +118,21 @@ class Stat(NamedTuple):
 
     @classmethod
     def of(cls, seen: os.stat_result) -> Stat:
-        """What `os.lstat` says, each number modulo 2 to the 32nd."""
+        """Returns the stat for the result of `os.lstat`, each number modulo 2 to the 32nd."""
         times = (*divmod(seen.st_ctime_ns, NANOSECONDS), *divmod(seen.st_mtime_ns, NANOSECONDS))
         numbers = (*times, seen.st_dev, seen.st_ino, seen.st_uid, seen.st_gid, seen.st_size)
         return cls(*(number & _UINT32 for number in numbers))
 
     def matches(self, seen: Stat, comparison: Comparison = BY_DEFAULT) -> bool:
-        """Whether a file that was seen so is taken for unchanged, as far as it is compared.
+        """Returns whether a file with the stat `seen` counts as unchanged, by the numbers that are compared.
 
-        A file as young as its index may be another all the same: `is_racy` tells.
+        A file as new as its index may have changed all the same: see `is_racy`.
         """
         rows = (ctypes.byref(Row(*self)), ctypes.byref(Row(*seen)))
         return library().gix_index_matches(*rows, ctypes.byref(comparison.told))
 
     def is_racy(self, mtime_ns: int, comparison: Comparison = BY_DEFAULT) -> bool:
-        """Whether the file may have changed when an index of this time was written, or later.
+        """Returns whether the file may have changed when an index with this time was written, or later.
 
         Then its stat proves nothing. The time is `Index.mtime_ns`.
         """
@@ -150,12 +151,12 @@ class Entry(NamedTuple):
 
     @property
     def stage(self) -> int:
-        """0, or in a conflict 1 for the common ancestor, 2 for our side, 3 for theirs."""
+        """Returns 0, or in a conflict 1 for the common ancestor, 2 for our side, 3 for theirs."""
         return (self.flags & Flags.STAGE_MASK) >> 12
 
     @classmethod
     def of(cls, path: Path, id: bytes, seen: os.stat_result) -> Entry:
-        """The entry of a file, a link or a submodule that is there, as `os.lstat` says."""
+        """Returns the entry of an existing file, link or submodule, for the result of `os.lstat`."""
         mode = Mode.of(seen)
         if mode is None:
             raise ValueError(f"{os.fsdecode(path)} is a device, a fifo or a socket, which no index has")
@@ -163,11 +164,11 @@ class Entry(NamedTuple):
 
 
 class Error(Exception):
-    """Why an index isn't read or written, where that is no OSError and no MemoryError."""
+    """Why an index isn't read or written, if the reason is neither an OSError nor a MemoryError."""
 
 
 class Refused(Error, ValueError):
-    """Bytes are no index, or damaged, or don't pass a check; or entries can't be written."""
+    """The bytes are no index, are damaged, or fail a check; or entries can't be written."""
 
     def __init__(self, text: str, fault: int, place: int, of_shared: bool = False) -> None:
         super().__init__(f"its shared index: {text}" if of_shared else text)

@@ -1,3 +1,4 @@
+// SPDX-License-Identifier: MIT OR Apache-2.0
 //! Writes an index to another file, or over itself, by way of a lock that is made before FILE is read; with its cached
 //! tree, where that tells what the entries give, and its mark of a sparse index, but no other extension. A link to a
 //! shared index is followed.

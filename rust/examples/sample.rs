@@ -1,3 +1,4 @@
+// SPDX-License-Identifier: MIT OR Apache-2.0
 //! Prints the id that an index has staged at a path, or none.
 //!
 //! Usage: sample INDEX PATH

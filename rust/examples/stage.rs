@@ -1,3 +1,4 @@
+// SPDX-License-Identifier: MIT OR Apache-2.0
 //! Stages or unstages a path in place, under the lock of the index, as `git update-index` does.
 //!
 //! Usage: stage sha1|sha256 INDEX PATH [ID]

@@ -1,4 +1,5 @@
-//! Changing an index as git changes it.
+// SPDX-License-Identifier: MIT OR Apache-2.0
+//! Changes an index as git changes it.
 
 use crate::entry::{flags, mode};
 use crate::raw::{self, Written};
@@ -9,30 +10,31 @@ use crate::{Entry, Error, Index, Kind, Locked, Stat, room};
 /// A change of an index.
 #[derive(Clone, Copy, Debug, PartialEq, Eq, Hash)]
 pub enum Change<'a> {
-    /// An entry is staged, as `git update-index --add --replace` does it: in the place of what has its path, at its
-    /// stage or, where the flags have none, at any, as a conflict is resolved; and of what is of its stage and a file
-    /// where the path needs a directory, or the other way round.
+    /// An entry is staged, as by `git update-index --add --replace`. It replaces the entry with its path and its stage.
+    /// If the flags have no stage, it replaces the entries with its path at all stages, as a conflict is resolved. It
+    /// also replaces entries of its stage that are in its way: a file whose path has to be a directory, or entries
+    /// below its path.
     Stage {
-        /// What the file system says of the file.
+        /// The stat of the file.
         stat: Stat,
-        /// The id of the object that holds the contents, with as many bytes as those of the index.
+        /// The id of the object with the contents. It has as many bytes as those of the index.
         id: &'a [u8],
-        /// Those in [`flags`], the stage among them.
+        /// Values of [`flags`], with the stage.
         flags: u32,
-        /// One of those in [`mode`].
+        /// One of the values of [`mode`].
         mode: u32,
-        /// From the top of the work tree on, with slashes.
+        /// The path from the top of the work tree, with slashes.
         path: &'a [u8],
     },
-    /// A path is taken out, at each stage and without what is below it, as `git update-index --force-remove` does it.
+    /// A path is removed, at each stage, but not what is below it, as by `git update-index --force-remove`.
     Unstage {
-        /// From the top of the work tree on, with slashes.
+        /// The path from the top of the work tree, with slashes.
         path: &'a [u8],
     },
 }
 
 impl<'a> Change<'a> {
-    /// The entry is staged without its stage, in the place of all sides of its conflict.
+    /// Returns a change that stages the entry without its stage. It replaces all sides of its conflict.
     #[must_use]
     pub fn resolve(entry: Entry<'a>) -> Change<'a> {
         let (stat, flags, mode) = (entry.stat(), entry.flags() & !flags::STAGE_MASK, entry.mode());
@@ -41,14 +43,14 @@ impl<'a> Change<'a> {
 }
 
 impl<'a> From<Entry<'a>> for Change<'a> {
-    /// The entry is staged as it is, at its own stage.
+    /// Returns a change that stages the entry as it is, at its own stage.
     fn from(entry: Entry<'a>) -> Change<'a> {
         let (stat, flags, mode) = (entry.stat(), entry.flags(), entry.mode());
         Change::Stage { stat, id: entry.id(), flags, mode, path: entry.path() }
     }
 }
 
-/// The changes as rows of a table.
+/// Returns the changes as rows of a table.
 fn table_of(kind: Kind, changes: &[Change<'_>]) -> Result<Index, Error> {
     let mut table = Index::new(kind);
     for change in changes {
@@ -65,7 +67,8 @@ fn table_of(kind: Kind, changes: &[Change<'_>]) -> Result<Index, Error> {
     Ok(table)
 }
 
-/// Puts what the rows make of an index into the room, and tells of it; Err where there is less room than is told.
+/// Writes the index after the changes in `table` to `bytes`. The inner error has the size that is needed, if there is
+/// less room.
 fn put(index: &[u8], shared: &[u8], table: &Index, bytes: &mut [u8]) -> Result<Result<Written, usize>, Error> {
     let mut told = Written::default();
     // SAFETY: each pointer goes with the length of its slice, and what is written is apart from the rest.
@@ -93,18 +96,24 @@ fn put(index: &[u8], shared: &[u8], table: &Index, bytes: &mut [u8]) -> Result<R
     }
 }
 
-/// Makes changes of an index, one after another and all or none, and gives what comes of it as all bytes of a file. The
-/// index is given as all bytes of its file, and so is the shared one that it links to, which isn't looked at where
+/// Makes changes of an index, in their order, and returns all bytes of the new file. Either all changes are made or
+/// none. The index is given as all bytes of its file, and so is the shared index that it links to. That isn't read if
 /// there is no link.
 ///
-/// What speaks of the entries is kept as git keeps it: the cached tree loses the counts on the way to each path, and
-/// the untracked cache what it has of its directories; sides of conflicts that go are recorded, so that `git checkout
-/// -m` gets them back. What is written has the index's version and its digest, and no link.
+/// Extensions are preserved as git preserves them. The cached tree loses the counts on the way to each path. The
+/// untracked cache loses the data of the path's directories. Sides of conflicts that are removed are recorded, so that
+/// `git checkout -m` restores them. The result has the index's version and its digest, and no link.
 ///
-/// [`Error::Refused`] tells a fault of those bytes; [`Fault::Order`](crate::Fault::Order) of the index's entries;
-/// [`Fault::Row`](crate::Fault::Row), [`Fault::Mode`](crate::Fault::Mode) or [`Fault::Name`](crate::Fault::Name) with
-/// the place of the first change that can't be made; and else [`Fault::Below`](crate::Fault::Below) with that of the
-/// first whose path lies in a directory that a sparse index has as one entry.
+/// # Errors
+///
+/// [`Error::Refused`] has the first of these:
+///
+/// - an error in the bytes;
+/// - [`Fault::Order`](crate::Fault::Order) of the index's entries;
+/// - [`Fault::Row`](crate::Fault::Row), [`Fault::Mode`](crate::Fault::Mode) or [`Fault::Name`](crate::Fault::Name) with
+///   the index of the first change that can't be made;
+/// - [`Fault::Below`](crate::Fault::Below) with the index of the first change whose path is in a directory that a
+///   sparse index has as one entry.
 pub fn update(index: &[u8], shared: Option<&[u8]>, kind: Kind, changes: &[Change<'_>]) -> Result<Vec<u8>, Error> {
     let (table, shared) = (table_of(kind, changes)?, shared.unwrap_or_default());
     let mut bytes = room(0, most_bytes(&table) + index.len() + shared.len())?;
@@ -120,11 +129,11 @@ pub fn update(index: &[u8], shared: Option<&[u8]>, kind: Kind, changes: &[Change
 }
 
 impl Locked {
-    /// Makes changes of the index that is locked, as [`update`] makes them, writes what comes of it in its place, and
-    /// ends the lock. Where there is no index yet, they are made of one without entries.
+    /// Makes changes of the index that is locked, as [`update`] makes them, replaces it by the result, and ends the
+    /// lock. If there is no index yet, the changes are made to one without entries.
     ///
-    /// Permissions and time are those of the old index, so that git looks at each file that it would have looked at.
-    /// With `sync` the file is on the disk before it takes the index's place. After an error the index is as it was.
+    /// Permissions and time are those of the old index, so git compares each file that it would have compared. With
+    /// `sync` the file is on the disk before it replaces the index. After an error the index is unchanged.
     pub fn commit_changes(self, kind: Kind, changes: &[Change<'_>], sync: bool) -> Result<(), Error> {
         let (index, shared) = if self.is_there() {
             let index = bytes_of(self.path().into())?;

@@ -1,4 +1,5 @@
-//! Checking an index, from bytes and from its path.
+// SPDX-License-Identifier: MIT OR Apache-2.0
+//! Checks an index, from bytes and from its path.
 
 use crate::raw::{self, Summary};
 use crate::read::{Files, bytes_of, shared_bytes_of};
@@ -36,24 +37,24 @@ impl Files<'_> {
     }
 }
 
-/// Whether these are all bytes of an index whose entries strictly increase by path, then stage, and whose cached tree,
-/// where there is one, holds together and counts no more entries than there are. Objects aren't looked at.
+/// Checks that these are all bytes of an index. Its entries have to strictly increase by path, then stage. Its cached
+/// tree, if there is one, has to be consistent and to count no more entries than there are. Objects aren't read.
 ///
-/// The bytes are read as [`Index::from_bytes`](crate::Index::from_bytes) reads them, whose faults come first; then
-/// comes [`Fault::Order`](crate::Fault::Order), and last [`Fault::CachedTree`](crate::Fault::CachedTree). Of a split
-/// index its own entries alone are checked, and those with an empty path are out of order where they are more than one.
+/// The errors are, in their order: those of [`Index::from_bytes`](crate::Index::from_bytes),
+/// [`Fault::Order`](crate::Fault::Order) and [`Fault::CachedTree`](crate::Fault::CachedTree). Of a split index only its
+/// own entries are checked. More than one entry with an empty path is out of order then.
 pub fn verify(bytes: &[u8], kind: Kind) -> Result<(), Error> {
     Files { bytes, shared: None, kind }.check()
 }
 
-/// The same of an index and of the shared index that it links to, read as
-/// [`Index::from_split_bytes`](crate::Index::from_split_bytes) reads them: the entries of both are checked.
+/// Checks an index and the shared index that it links to, as [`verify`] checks one. They are read as by
+/// [`Index::from_split_bytes`](crate::Index::from_split_bytes), and the entries of both are checked.
 pub fn verify_split(bytes: &[u8], shared: &[u8], kind: Kind) -> Result<(), Error> {
     Files { bytes, shared: Some(shared), kind }.check()
 }
 
-/// The same of the index at a path, as `index-tool check` does. A link to a shared index is followed, as
-/// [`Index::open`](crate::Index::open) follows it.
+/// Checks the index at a path, as [`verify`] checks bytes and as `index-tool check` does. A link to a shared index is
+/// followed, as by [`Index::open`](crate::Index::open).
 pub fn verify_file(path: impl AsRef<Path>, kind: Kind) -> Result<(), Error> {
     let path = path.as_ref();
     let bytes = bytes_of(path.into())?;

@@ -1,11 +1,12 @@
-//! Changing the entries of an index in memory.
+// SPDX-License-Identifier: MIT OR Apache-2.0
+//! Changes the entries of an index in memory.
 
 use crate::entry::flags::STAGE_MASK;
 use crate::raw::Row;
 use crate::{Entry, Error, Index, Kind, Stat};
 use std::fmt;
 
-/// An entry of an index, lent to be changed. Its path stays.
+/// A mutable borrow of an entry of an index. Its path can't be changed.
 pub struct EntryMut<'a> {
     row: &'a mut Row,
     paths: &'a [u8],
@@ -19,29 +20,30 @@ impl fmt::Debug for EntryMut<'_> {
 }
 
 impl EntryMut<'_> {
-    /// The entry as it is now.
+    /// Returns the entry as it is now.
     #[must_use]
     pub fn entry(&self) -> Entry<'_> {
         Entry { row: self.row, paths: self.paths }
     }
 
-    /// Sets what the file system says of the file.
+    /// Sets the stat of the file.
     pub fn set_stat(&mut self, stat: Stat) {
         self.row.set_stat(stat);
     }
 
-    /// Sets the id of the object that holds the contents. An id that hasn't as many bytes as the index's is
-    /// [`Error::Id`], and the entry is as it was.
+    /// Sets the id of the object with the contents. If it hasn't as many bytes as the index's ids, the error is
+    /// [`Error::Id`], and the entry is unchanged.
     pub fn set_id(&mut self, id: &[u8]) -> Result<(), Error> {
         self.row.set_id(id, self.kind)
     }
 
-    /// Sets the kind of file: one of those in [`mode`](crate::mode). With another the index isn't written.
+    /// Sets the type of the file: one of the values of [`mode`](crate::mode). With another mode the index can't be
+    /// written.
     pub fn set_mode(&mut self, mode: u32) {
         self.row.mode = mode;
     }
 
-    /// Sets what else is noted of the entry, the stage among it: those in [`flags`](crate::flags).
+    /// Sets the flags, with the stage: values of [`flags`](crate::flags).
     pub fn set_flags(&mut self, flags: u32) {
         self.row.set_flags(flags);
     }
@@ -80,18 +82,18 @@ impl Row {
 }
 
 impl Index {
-    /// An index with no entry, for ids of this kind.
+    /// Returns an index with no entry, for ids of this hash algorithm.
     #[must_use]
     pub fn new(kind: Kind) -> Index {
         let (rows, paths) = (Vec::new(), Vec::new());
         Index { rows, paths, kind, version: 2, has_link: false, shared_id: [0; 32], checksum: [0; 32], timestamp: None }
     }
 
-    /// Puts an entry at the end, and its path behind the others. The stage is that of the flags.
+    /// Appends an entry, and its path to the other paths. The stage is that of the flags.
     ///
-    /// It's dangerous because its place isn't looked at: searches promise less until the entries are in order again, as
-    /// [`sort_entries`](Index::sort_entries) puts them, and an index out of order isn't written. An id that hasn't as
-    /// many bytes as the index's is [`Error::Id`]; after an error the index is as it was.
+    /// This is dangerous because the order isn't checked. Searches guarantee less until the entries are in order again,
+    /// as after [`sort_entries`](Index::sort_entries), and an index out of order can't be written. If the id hasn't as
+    /// many bytes as the index's ids, the error is [`Error::Id`]. After an error the index is unchanged.
     pub fn dangerously_push_entry(
         &mut self,
         stat: Stat,
@@ -111,15 +113,15 @@ impl Index {
         Ok(())
     }
 
-    /// Puts the entries in order by path, byte by byte, then by stage. Those that agree in both keep their order.
+    /// Sorts the entries by path, byte by byte, then by stage. The sort is stable.
     pub fn sort_entries(&mut self) {
         let paths = &self.paths;
         let key = |row: &Row| (&paths[row.path_start..][..row.path_len], row.stage);
         self.rows.sort_by(|a, b| key(a).cmp(&key(b)));
     }
 
-    /// Shows every entry to the closure, in order, with its place and its path, and takes out those for which the
-    /// answer is true. The others keep their order.
+    /// Calls the closure for each entry in order, with its index and its path, and removes those for which it returns
+    /// true. The others keep their order.
     pub fn remove_entries(&mut self, mut should_remove: impl FnMut(usize, &[u8], Entry<'_>) -> bool) {
         let (paths, mut place) = (&self.paths, 0..);
         self.rows.retain(|row| {
@@ -128,7 +130,7 @@ impl Index {
         });
     }
 
-    /// Takes the entry at a place out, counted from 0, and tells whether there was one. The others keep their order.
+    /// Removes the entry at an index, counted from 0, and returns whether there was one. The others keep their order.
     pub fn remove_entry_at_index(&mut self, place: usize) -> bool {
         let is_there = place < self.rows.len();
         if is_there {
@@ -137,21 +139,21 @@ impl Index {
         is_there
     }
 
-    /// The entry at a place, counted from 0, to be changed.
+    /// Returns a mutable borrow of the entry at an index, counted from 0.
     #[must_use]
     pub fn entry_mut(&mut self, place: usize) -> Option<EntryMut<'_>> {
         let row = self.rows.get_mut(place)?;
         Some(EntryMut { row, paths: &self.paths, kind: self.kind })
     }
 
-    /// The entry at the path and the stage, to be changed, or None, as
-    /// [`entry_index_by_path_and_stage`](Index::entry_index_by_path_and_stage) has its place.
+    /// Returns a mutable borrow of the entry with the path and the stage, or `None`. It is the one that
+    /// [`entry_index_by_path_and_stage`](Index::entry_index_by_path_and_stage) finds.
     #[must_use]
     pub fn entry_mut_by_path_and_stage(&mut self, path: &[u8], stage: u32) -> Option<EntryMut<'_>> {
         self.entry_mut(self.entry_index_by_path_and_stage(path, stage)?)
     }
 
-    /// The entries, in their order, to be changed.
+    /// Returns mutable borrows of the entries, in their order.
     #[must_use]
     pub fn entries_mut(&mut self) -> impl ExactSizeIterator<Item = EntryMut<'_>> + DoubleEndedIterator {
         let (paths, kind) = (&self.paths, self.kind);

@@ -1,4 +1,5 @@
-//! An entry of an index: its stat numbers, its mode, its flags, and the entry itself, lent.
+// SPDX-License-Identifier: MIT OR Apache-2.0
+//! An entry of an index: its stat, its mode, its flags, and a borrow of the entry itself.
 
 use crate::raw::{self, Comparison, Row, Seen};
 use std::fmt;
@@ -7,12 +8,12 @@ use std::hash::{Hash, Hasher};
 use std::os::unix::fs::MetadataExt;
 use std::time::{Duration, SystemTime, UNIX_EPOCH};
 
-/// A time of an entry, in the 32 bits of each part that a file stores, since the begin of 1970.
+/// A time of an entry since the begin of 1970, with the 32 bits of each part that a file stores.
 #[derive(Clone, Copy, Debug, Default, PartialEq, Eq, PartialOrd, Ord, Hash)]
 pub struct Time {
-    /// Whole seconds.
+    /// The number of seconds.
     pub secs: u32,
-    /// Nanoseconds on top.
+    /// The number of nanoseconds in addition.
     pub nsecs: u32,
 }
 
@@ -22,12 +23,12 @@ impl From<Time> for SystemTime {
     }
 }
 
-/// The stat numbers of an entry, each in the 32 bits that a file stores (gitformat-index, "Index entry").
+/// The stat of an entry, with the 32 bits of each number that a file stores (gitformat-index, "Index entry").
 #[derive(Clone, Copy, Debug, Default, PartialEq, Eq, Hash)]
 pub struct Stat {
-    /// When the contents changed last.
+    /// When the contents were last changed.
     pub mtime: Time,
-    /// When the file's own data changed last.
+    /// When the file's metadata were last changed.
     pub ctime: Time,
     /// The device.
     pub dev: u32,
@@ -42,8 +43,8 @@ pub struct Stat {
 }
 
 impl Stat {
-    /// What the file system says of a file, each number modulo 2 to the 32nd, as git stores it: mostly what
-    /// [`symlink_metadata`](std::fs::symlink_metadata) says.
+    /// Returns the stat of a file's metadata, each number modulo 2 to the 32nd, as git stores it. The metadata usually
+    /// come from [`symlink_metadata`](std::fs::symlink_metadata).
     #[must_use]
     pub fn from_fs(said: &Metadata) -> Stat {
         Stat {
@@ -58,17 +59,17 @@ impl Stat {
     }
 }
 
-/// What of a stat is compared, as git has it (git-config, "core.trustctime" and "core.checkStat"). By default it is what
-/// git compares where nothing else is configured.
+/// Which numbers of a stat are compared, as in git (git-config, "core.trustctime" and "core.checkStat"). The default is
+/// what git compares by default.
 #[derive(Clone, Copy, Debug, PartialEq, Eq, Hash)]
 pub struct Options {
-    /// The ctime is.
+    /// Compare the ctime.
     pub trust_ctime: bool,
-    /// Inode, owner and group are.
+    /// Compare inode, owner and group.
     pub check_stat: bool,
-    /// Nanoseconds are, with `check_stat`.
+    /// Compare nanoseconds, with `check_stat`.
     pub use_nsec: bool,
-    /// The device is, with `check_stat`.
+    /// Compare the device, with `check_stat`.
     pub use_stdev: bool,
 }
 
@@ -86,8 +87,8 @@ impl Options {
 }
 
 impl Stat {
-    /// Whether this is the stat of the same unchanged file: the time of the last change and the size are compared
-    /// always, the rest where the options have it.
+    /// Returns whether this is the stat of the same unchanged file. The time of the last change and the size are always
+    /// compared, the rest as the options select.
     #[must_use]
     pub fn matches(&self, other: &Stat, options: Options) -> bool {
         let (row, seen) = (Row::from(*self), Row::from(*other));
@@ -95,8 +96,8 @@ impl Stat {
         unsafe { raw::gix_index_matches(&row, &seen, &options.raw()) }
     }
 
-    /// Whether the file may have changed when an index of this time was written, or later, so that its stat proves
-    /// nothing: it was last changed no earlier.
+    /// Returns whether the file may have changed when an index with this time was written, or later. The stat proves
+    /// nothing then. This is so if the file was last changed no earlier than that time.
     #[must_use]
     pub fn is_racy(&self, timestamp: SystemTime, options: Options) -> bool {
         let (secs, nsecs) = since_1970(timestamp);
@@ -105,7 +106,7 @@ impl Stat {
     }
 }
 
-/// Seconds since the begin of 1970, below zero before it, and nanoseconds on top.
+/// Returns the seconds since the begin of 1970, which are negative before it, and the nanoseconds in addition.
 fn since_1970(time: SystemTime) -> (i64, u32) {
     match time.duration_since(UNIX_EPOCH) {
         Ok(behind) => (behind.as_secs() as i64, behind.subsec_nanos()),
@@ -122,7 +123,7 @@ impl From<&Metadata> for Stat {
     }
 }
 
-/// The mode of an entry's file: the kind, and whether its owner may run it.
+/// The mode of an entry's file: its type, and whether its owner may run it.
 pub mod mode {
     use super::{Seen, raw};
     use std::fs::Metadata;
@@ -139,9 +140,8 @@ pub mod mode {
     /// A submodule.
     pub const COMMIT: u32 = 0o160000;
 
-    /// The mode that an entry of what stands at its path has, by what
-    /// [`symlink_metadata`](std::fs::symlink_metadata) says: of a directory that of a submodule. None where it is a
-    /// device, a fifo or a socket.
+    /// Returns the mode of an entry for a file with these metadata, as [`symlink_metadata`](std::fs::symlink_metadata)
+    /// returns them. A directory gets the mode of a submodule. Returns `None` for a device, a fifo or a socket.
     #[must_use]
     pub fn from_fs(said: &Metadata) -> Option<u32> {
         if said.is_symlink() {
@@ -155,10 +155,12 @@ pub mod mode {
         }
     }
 
-    /// The mode that an entry of this mode takes to be that of what stands at its path, by what
-    /// [`symlink_metadata`](std::fs::symlink_metadata) says; the same where it fits. The file system holds links where
-    /// `has_symlinks` says so, and without them a file stands for one; without a bit for execution, as `executable_bit`
-    /// says, a file's mode stays (git-config, "core.symlinks" and "core.fileMode").
+    /// Returns the mode that an entry with this mode has to get to match the file at its path. It is the same mode if
+    /// they match already. The metadata are those of [`symlink_metadata`](std::fs::symlink_metadata).
+    ///
+    /// `has_symlinks` is whether the file system has links; without them a file counts as the link. `executable_bit` is
+    /// whether it has a bit for execution; without it a file's mode is unchanged (git-config, "core.symlinks" and
+    /// "core.fileMode").
     #[must_use]
     pub fn change_to_match_fs(mode: u32, said: &Metadata, has_symlinks: bool, executable_bit: bool) -> u32 {
         let seen = Seen {
@@ -175,23 +177,23 @@ pub mod mode {
     }
 }
 
-/// Flags of an entry; bits 12 and 13 are its stage.
+/// The flags of an entry. Bits 12 and 13 are its stage.
 pub mod flags {
-    /// The bits that are the stage.
+    /// The bits of the stage.
     pub const STAGE_MASK: u32 = 0x3000;
-    /// The file has a second word of flags of the entry.
+    /// The file has 16 further bits of flags of the entry.
     pub const EXTENDED: u32 = 0x4000;
-    /// The file is taken for unchanged.
+    /// The file is assumed to be unchanged.
     pub const ASSUME_VALID: u32 = 0x8000;
-    /// In memory alone: an index that is written leaves the entry out.
+    /// Only in memory: an index that is written leaves the entry out.
     pub const REMOVE: u32 = 0x2_0000;
-    /// The path is to be added later.
+    /// The path is intended to be added later.
     pub const INTENT_TO_ADD: u32 = 0x2000_0000;
     /// The file isn't wanted in the work tree.
     pub const SKIP_WORKTREE: u32 = 0x4000_0000;
 }
 
-/// An entry of an index, lent. Two are equal where all that is read of them is.
+/// A borrow of an entry of an index. Two are equal if all values that were read are equal.
 #[derive(Clone, Copy)]
 pub struct Entry<'a> {
     pub(crate) row: &'a Row,
@@ -199,20 +201,20 @@ pub struct Entry<'a> {
 }
 
 impl<'a> Entry<'a> {
-    /// The path from the top of the work tree, with slashes.
+    /// Returns the path from the top of the work tree, with slashes.
     #[must_use]
     pub fn path(&self) -> &'a [u8] {
         &self.paths[self.row.path_start..][..self.row.path_len]
     }
 
-    /// The id of the object that holds the contents: 20 or 32 bytes.
+    /// Returns the id of the object with the contents: 20 or 32 bytes.
     #[must_use]
     pub fn id(&self) -> &'a [u8] {
         let len = if self.row.kind == raw::SHA256 { 32 } else { 20 };
         &self.row.id[..len]
     }
 
-    /// What the file system said of the file.
+    /// Returns the stat of the file.
     #[must_use]
     pub fn stat(&self) -> Stat {
         let row = self.row;
@@ -227,25 +229,25 @@ impl<'a> Entry<'a> {
         }
     }
 
-    /// The kind of file: one of those in [`mode`].
+    /// Returns the type of the file: one of the values of [`mode`].
     #[must_use]
     pub fn mode(&self) -> u32 {
         self.row.mode
     }
 
-    /// What else is noted of the entry: those in [`flags`], and others that live in memory alone.
+    /// Returns the flags: values of [`flags`], and others that are only in memory.
     #[must_use]
     pub fn flags(&self) -> u32 {
         self.row.flags
     }
 
-    /// The stage: 0, or in a conflict 1 for the common ancestor, 2 for our side, 3 for theirs.
+    /// Returns the stage: 0, or in a conflict 1 for the common ancestor, 2 for our side, 3 for theirs.
     #[must_use]
     pub fn stage(&self) -> u32 {
         self.row.stage
     }
 
-    /// All that is read of it. The stage is that of the flags.
+    /// Returns all values that were read. The stage is part of the flags.
     fn all(&self) -> (&'a [u8], &'a [u8], Stat, u32, u32) {
         (self.path(), self.id(), self.stat(), self.mode(), self.flags())
     }
@@ -265,7 +267,7 @@ impl Hash for Entry<'_> {
     }
 }
 
-/// Bytes in lower-case base 16, as an id is shown.
+/// Displays bytes in lower-case base 16, as ids are shown.
 pub(crate) struct Hex<'a>(pub &'a [u8]);
 
 impl fmt::Display for Hex<'_> {

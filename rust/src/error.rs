@@ -1,3 +1,4 @@
+// SPDX-License-Identifier: MIT OR Apache-2.0
 //! Why an index isn't read or written.
 
 use crate::raw::{self, Summary, Given, Written};
@@ -7,50 +8,53 @@ use std::io;
 use std::os::unix::fs::FileTypeExt;
 use std::path::PathBuf;
 
-/// What is wrong with bytes that are no index, or damaged, or don't pass a check; or with entries that aren't written.
+/// What is wrong with bytes that are no index, are damaged, or fail a check; or with entries that can't be written.
 #[derive(Clone, Copy, Debug, PartialEq, Eq, Hash)]
 #[non_exhaustive]
 pub enum Fault {
-    /// They begin with no header of an index, or it declares more entries than they can hold.
+    /// The bytes don't begin with the header of an index, or it declares more entries than they can hold.
     Header,
     /// The version isn't 2, 3 or 4.
     Version,
-    /// The entry at this place, counted from 0, can't be read.
+    /// The entry at this index, counted from 0, can't be read.
     Entry(usize),
-    /// A mandatory extension isn't understood.
+    /// A mandatory extension is unknown.
     Extension,
-    /// The link to a shared index is at fault.
+    /// The link to a shared index is invalid.
     Link,
-    /// The bytes behind all entries and extensions aren't as many as the trailer has.
+    /// The number of bytes after all entries and extensions isn't that of a trailer.
     Trailer,
-    /// The digest isn't the trailer.
+    /// The digest isn't equal to the trailer.
     Digest,
-    /// The entry at this place, counted from 0, isn't above the one before it, by path, then stage.
-    /// Calls that check, write, update or give trees alone tell so.
+    /// The entry at this index, counted from 0, isn't greater than the one before it, by path, then stage. Only calls
+    /// that check, write, update or build trees return this.
     Order(usize),
-    /// The cached tree doesn't hold together, or counts more entries than there are. Calls that check alone tell so.
+    /// The cached tree isn't consistent, or counts more entries than there are. Only calls that check return this.
     CachedTree,
-    /// The entry at this place, counted from 0, can't be written: its path is empty or has a NUL, or it is a directory
-    /// of a sparse index where no such index is written over. Or it can't stand in a tree: its id is zeros, more than
-    /// 2048 directories lie above it, or it is a directory of a sparse index whose path has no slash at its end.
+    /// The entry at this index, counted from 0, can't be written, or can't be in a tree.
+    ///
+    /// - It can't be written if its path is empty or has a NUL, or if it is a directory of a sparse index and no such
+    ///   index is replaced.
+    /// - It can't be in a tree if its id is zeros, or if it is below more than 2048 directories. A directory of a
+    ///   sparse index can't be in a tree if its path has no slash at its end.
     Row(usize),
-    /// There are more entries than the 4294967295 that a file can count, or the 2147483647 of which trees are made.
+    /// There are more entries than the 4294967295 that a file can count, or the 2147483647 of which trees are built.
     Count,
     /// The file would have more than the 4294967295 bytes that its offsets can reach.
     Length,
-    /// The entry at this place, counted from 0, has a mode that is none of the five that git has.
+    /// The entry at this index, counted from 0, has a mode that is none of git's five.
     Mode(usize),
-    /// The path of the change or the entry at this place, counted from 0, has a name that is empty, or that git lets
-    /// stand in none. [`update`](crate::update) and [`write_trees`](crate::Index::write_trees) alone tell so.
+    /// The path of the change or the entry at this index, counted from 0, has a name that is empty or that git rejects.
+    /// Only [`update`](crate::update) and [`write_trees`](crate::Index::write_trees) return this.
     Name(usize),
-    /// The entry at this place, counted from 0, is in conflict. [`write_trees`](crate::Index::write_trees) alone tells
-    /// so.
+    /// The entry at this index, counted from 0, is in conflict. Only [`write_trees`](crate::Index::write_trees) returns
+    /// this.
     Unmerged(usize),
-    /// The path of the entry at this place, counted from 0, lies below that of another entry, which is no directory, or
-    /// in a directory of a sparse index. [`write_trees`](crate::Index::write_trees) tells so; and so does
-    /// [`update`](crate::update) of a change whose path lies in a directory of a sparse index.
+    /// The path of the entry at this index, counted from 0, is below that of another entry. The other entry is no
+    /// directory, or it is a directory of a sparse index. [`write_trees`](crate::Index::write_trees) returns this.
+    /// [`update`](crate::update) returns it for a change whose path is in a directory of a sparse index.
     Below(usize),
-    /// A fault of another number.
+    /// An error with another number.
     Other(u32),
 }
 
@@ -58,72 +62,72 @@ pub enum Fault {
 #[derive(Debug)]
 #[non_exhaustive]
 pub enum Error {
-    /// The bytes are no index of this kind, or damaged, or don't pass a check; or the entries can't be written.
+    /// The bytes are no index of this hash algorithm, are damaged, or fail a check; or the entries can't be written.
     Refused {
         /// What is wrong.
         fault: Fault,
-        /// The same in words.
+        /// The message for `fault`.
         text: String,
     },
-    /// The bytes of the shared index are no index of this kind, or damaged, or another's.
+    /// The bytes of the shared index are no index of this hash algorithm, are damaged, or are those of another index.
     RefusedShared {
         /// What is wrong.
         fault: Fault,
-        /// The same in words.
+        /// The message for `fault`.
         text: String,
     },
-    /// A growth was refused.
+    /// An allocation failed.
     Memory,
-    /// The index has only those entries that its shared index lacks.
+    /// The index lacks the entries of its shared index.
     Split,
     /// An id has another number of bytes than those of the index.
     Id {
-        /// How many bytes the index's ids have.
+        /// The number of bytes of the index's ids.
         expected: usize,
-        /// How many bytes it has.
+        /// The number of bytes of the given id.
         actual: usize,
     },
-    /// The lock file is there: another process writes the index, or died while it did, and then the file has to be
-    /// removed by hand.
+    /// The lock file exists. Another process writes the index, or died while it did. Then the file has to be removed by
+    /// hand.
     Locked {
         /// The lock file.
         lock: PathBuf,
     },
-    /// What is to be written over is a directory, a device, a fifo or a socket.
+    /// The file to be replaced is a directory, a device, a fifo or a socket.
     NotRegular {
-        /// The path that was come to behind all symbolic links.
+        /// The path with all symbolic links followed.
         path: PathBuf,
-        /// What stands there.
+        /// The type of the file there.
         found: FileType,
     },
-    /// A sixth symbolic link stands behind five, which are those that git follows to an index.
+    /// A chain has more than five symbolic links. git follows at most five to an index.
     TooManyLinks {
-        /// The path of the first.
+        /// The path of the first link.
         path: PathBuf,
     },
-    /// A symbolic link leads to a file that isn't there.
+    /// The target of a symbolic link doesn't exist.
     LeadsNowhere {
         /// The path of the first link.
         path: PathBuf,
-        /// Where it leads.
+        /// The target that doesn't exist.
         target: PathBuf,
     },
-    /// A file has more bytes than the 4294967328 that an index can have, or no end.
+    /// A file has more bytes than the 4294967328 that an index can have, or has no end.
     TooLong {
-        /// Which file.
+        /// The path of the file.
         path: PathBuf,
     },
     /// The file, or its lock, can't be read or written.
     Io {
-        /// Which file.
+        /// The path of the file.
         path: PathBuf,
-        /// Why.
+        /// The reason.
         error: io::Error,
     },
 }
 
 impl Fault {
-    /// The fault of a number, with the place that it names.
+    /// Returns the value for a number, with the index of an entry if it has one.
     fn of(number: u32, place: usize) -> Fault {
         match number {
             raw::FAULT_HEADER => Fault::Header,
@@ -174,7 +178,7 @@ impl fmt::Display for Fault {
 }
 
 impl Error {
-    /// What a call that refused entries said.
+    /// Returns the error of a call that rejected entries.
     pub(crate) fn of_written(told: &Written) -> Error {
         let fault = Fault::of(told.fault, told.fault_place);
         let text = match fault {
@@ -184,7 +188,7 @@ impl Error {
         Error::Refused { fault, text }
     }
 
-    /// What a call that refused changes said.
+    /// Returns the error of a call that rejected changes.
     pub(crate) fn of_updated(told: &Written) -> Error {
         let fault = Fault::of(told.fault, told.fault_place);
         let text = match fault {
@@ -196,7 +200,7 @@ impl Error {
         if told.of_shared == 0 { Error::Refused { fault, text } } else { Error::RefusedShared { fault, text } }
     }
 
-    /// What a call that refused to give trees said.
+    /// Returns the error of a call that couldn't build trees.
     pub(crate) fn of_trees(told: &Given) -> Error {
         let fault = Fault::of(told.fault, told.fault_place);
         let text = match fault {
@@ -211,7 +215,7 @@ impl Error {
         Error::Refused { fault, text }
     }
 
-    /// What a call that refused bytes said.
+    /// Returns the error of a call that rejected bytes.
     pub(crate) fn of(summary: &Summary, text: &[u8]) -> Error {
         let fault = Fault::of(summary.fault, summary.fault_place);
         let text = String::from_utf8_lossy(&text[..summary.text_bytes]).into_owned();
@@ -219,7 +223,7 @@ impl Error {
     }
 }
 
-/// What a file that is no regular one is called.
+/// Returns the name of a type of file that isn't regular.
 fn name_of(found: &FileType) -> &'static str {
     if found.is_dir() {
         "directory"
@@ -276,7 +280,8 @@ impl std::error::Error for Error {
 }
 
 impl From<Error> for io::Error {
-    /// The same fault, of which [`io::Error::get_ref`] gives this one again; but for want of memory, which takes none.
+    /// Converts the error. [`io::Error::get_ref`] returns the original, except for [`Error::Memory`], so that no memory
+    /// is needed.
     fn from(error: Error) -> io::Error {
         let kind = match &error {
             Error::Memory => return io::ErrorKind::OutOfMemory.into(),
@@ -291,7 +296,7 @@ impl From<Error> for io::Error {
     }
 }
 
-/// A text is none of a [`Kind`](crate::Kind).
+/// A text that isn't the name of a [`Kind`](crate::Kind).
 #[derive(Clone, Copy, Debug, PartialEq, Eq, Hash)]
 #[non_exhaustive]
 pub struct UnknownKind;

@@ -1,14 +1,16 @@
+// SPDX-License-Identifier: MIT OR Apache-2.0
 //! The git index, read and written by a static library whose functions are proved to meet their contracts.
 //!
-//! [`Index`] is a copy of the entries of an index file, in memory of its own, to be searched, changed and written.
-//! Names are those of the crate `gix-index` where they say the same. What is proved is told in
-//! `crates/index_c/README.md`; this crate isn't proved: it hands slices to the library's calls and takes their answers.
-//! It has no dependencies, so its errors implement [`std::error::Error`] by hand.
+//! [`Index`] is a copy of the entries of an index file. It owns its memory, and can be searched, changed and written.
+//! Names are those of the crate `gix-index` if they mean the same. `crates/index_c/README.md` describes what is proved.
+//! This crate isn't proved: it passes slices to the library's calls and takes their results. It has no dependencies, so
+//! its errors implement [`std::error::Error`] by hand.
 //!
-//! Safe beside git, which may write the same index, is [`Index::lock`], then [`Locked::open`] where entries are looked
-//! at, then [`Locked::commit_changes`] or [`Locked::commit`]: what is read is what is replaced. The first makes changes
-//! as git makes them, the second writes an index whose entries were edited. [`Index::write`] locks only when it writes,
-//! so what another process wrote between the reading and it is lost.
+//! These calls are safe if git may write the same index concurrently: [`Index::lock`], then [`Locked::open`] if the
+//! entries are needed, then [`Locked::commit_changes`] or [`Locked::commit`]. The index that is replaced is the one
+//! that was read. [`Locked::commit_changes`] makes changes as git makes them, and [`Locked::commit`] writes an index
+//! whose entries were edited. [`Index::write`] locks only when it writes. What another process wrote after the index
+//! was read is lost.
 //!
 //! ```no_run
 //! use gix_index_proved::{Change, Error, Index, Kind};
@@ -51,7 +53,13 @@ use std::ops::Range;
 use std::str::FromStr;
 use std::time::SystemTime;
 
-/// Which hash function a repository names its objects by. Its text is `sha1` or `sha256`.
+/// The version of this crate, which is that of the library.
+pub const VERSION: &str = env!("CARGO_PKG_VERSION");
+
+/// The version of the crate `gix-index` that the library ports.
+pub const UPSTREAM_VERSION: &str = "0.55.0";
+
+/// The hash algorithm of a repository's ids. Its text is `sha1` or `sha256`.
 #[derive(Clone, Copy, Debug, PartialEq, Eq, PartialOrd, Ord, Hash)]
 pub enum Kind {
     /// SHA-1, with ids of 20 bytes.
@@ -61,7 +69,7 @@ pub enum Kind {
 }
 
 impl Kind {
-    /// How many bytes an id of this kind has: 20 or 32.
+    /// Returns the number of bytes of an id: 20 or 32.
     #[must_use]
     pub const fn len_in_bytes(self) -> usize {
         match self {
@@ -79,8 +87,8 @@ impl Kind {
 }
 
 impl Kind {
-    /// The id that git has for a file of these bytes, of 20 or 32 of them. What filters and line ends make of a file in
-    /// the work tree is the caller's.
+    /// Returns the id, of 20 or 32 bytes, that git has for a file with these bytes. The caller applies filters and line
+    /// ends to a file of the work tree.
     #[must_use]
     pub fn blob_id(self, bytes: &[u8]) -> Vec<u8> {
         let mut id = [0; 32];
@@ -112,8 +120,8 @@ impl FromStr for Kind {
     }
 }
 
-/// The entries of an index, in the order of its file. Two are equal where their entries are, one by one, and all that
-/// is told of the files that they were read from.
+/// The entries of an index, in the order of its file. Two are equal if all of their entries are equal, and all other
+/// values that were read from their files.
 #[derive(Clone)]
 pub struct Index {
     rows: Vec<Row>,
@@ -126,7 +134,7 @@ pub struct Index {
     timestamp: Option<SystemTime>,
 }
 
-/// So many copies of a value, or want of memory.
+/// Returns `len` copies of a value, or an error if the allocation fails.
 fn room<T: Copy>(value: T, len: usize) -> Result<Vec<T>, Error> {
     let mut values = Vec::new();
     values.try_reserve_exact(len).map_err(|_| Error::Memory)?;
@@ -135,41 +143,42 @@ fn room<T: Copy>(value: T, len: usize) -> Result<Vec<T>, Error> {
 }
 
 impl Index {
-    /// The kind of the ids.
+    /// Returns the hash algorithm of the ids.
     #[must_use]
     pub fn object_hash(&self) -> Kind {
         self.kind
     }
 
-    /// The version of the file that was read: 2, 3 or 4; of a new index 2.
+    /// Returns the version of the file that was read: 2, 3 or 4. A new index has version 2.
     #[must_use]
     pub fn version(&self) -> u32 {
         self.version
     }
 
-    /// When the file was written last that this was read from, or None where it wasn't read from one: the time that
-    /// the index gets that is written, so that git trusts no more entries of it than of the one that was read.
+    /// Returns when the file was last written from which this was read, or `None` if it wasn't read from a file. An
+    /// index that is written gets this time, so git trusts no more of its entries than of those of the index that was
+    /// read.
     #[must_use]
     pub fn timestamp(&self) -> Option<SystemTime> {
         self.timestamp
     }
 
-    /// Whether the bytes link to a shared index, which wasn't followed.
+    /// Returns whether the bytes link to a shared index that wasn't read.
     #[must_use]
     pub fn has_link(&self) -> bool {
         self.has_link
     }
 
-    /// The id of the shared index that the bytes link to, which wasn't followed. None where there is no link, or its id
-    /// is null, as there is none to follow then.
+    /// Returns the id of the shared index that the bytes link to and that wasn't read. Returns `None` if there is no
+    /// link, or if its id is null, because then there is no shared index to read.
     #[must_use]
     pub fn shared_id(&self) -> Option<&[u8]> {
         let id = &self.shared_id[..self.kind.len_in_bytes()];
         (self.has_link && id.iter().any(|byte| *byte != 0)).then_some(id)
     }
 
-    /// The digest that the file which was read ends with, of all bytes before it. None where it is null, as no digest
-    /// was taken then, and of a new index. It stays when entries change.
+    /// Returns the digest at the end of the file that was read. It is that of all bytes before it. Returns `None` if it
+    /// is null, because no digest was computed, and for a new index. It is unchanged when entries change.
     #[must_use]
     pub fn checksum(&self) -> Option<&[u8]> {
         let id = &self.checksum[..self.kind.len_in_bytes()];
@@ -180,22 +189,22 @@ impl Index {
         Entry { row, paths: &self.paths }
     }
 
-    /// The entries, in the order of the file.
+    /// Returns the entries, in the order of the file.
     #[must_use]
     pub fn entries(&self) -> impl ExactSizeIterator<Item = Entry<'_>> + DoubleEndedIterator {
         self.rows.iter().map(|row| self.lend(row))
     }
 
-    /// The entry at a place, counted from 0.
+    /// Returns the entry at an index, counted from 0.
     #[must_use]
     pub fn entry(&self, place: usize) -> Option<Entry<'_>> {
         self.rows.get(place).map(|row| self.lend(row))
     }
 
-    /// The place of the entry at the path and the stage, counted from 0, or None.
+    /// Returns the index of the entry with the path and the stage, counted from 0, or `None`.
     ///
-    /// It is promised over entries that strictly increase by path, then stage. Over other entries an entry at a place
-    /// that is given still has the path and the stage.
+    /// This is guaranteed for entries that strictly increase by path, then stage. For other entries, a returned index
+    /// is still that of an entry with the path and the stage.
     #[must_use]
     pub fn entry_index_by_path_and_stage(&self, path: &[u8], stage: u32) -> Option<usize> {
         // SAFETY: each pointer goes with the length of its slice, and nothing is written.
@@ -213,7 +222,8 @@ impl Index {
         (place < self.rows.len()).then_some(place)
     }
 
-    /// How many entries stand before the path and the stage: where an entry with both is, or has to be put.
+    /// Returns the number of entries that are less than the path and the stage: the index at which an entry with both
+    /// is, or would be inserted.
     pub(crate) fn lower_bound(&self, path: &[u8], stage: u32) -> usize {
         // SAFETY: each pointer goes with the length of its slice, and nothing is written.
         unsafe {
@@ -229,11 +239,11 @@ impl Index {
         }
     }
 
-    /// The place of the first entry at the path, whatever its stage, counted from 0; or as an error the place where one
-    /// at stage 0 has to be put, so that the entries stay in order.
+    /// Returns the index of the first entry with the path, at any stage, counted from 0. If there is none, the error is
+    /// the index at which one at stage 0 would be inserted so that the entries stay in order.
     ///
-    /// It is promised over entries that strictly increase by path, then stage. Over other entries an entry at a place
-    /// that is given still has the path.
+    /// This is guaranteed for entries that strictly increase by path, then stage. For other entries, a returned index
+    /// is still that of an entry with the path.
     pub fn entry_index_by_path(&self, path: &[u8]) -> Result<usize, usize> {
         let place = self.lower_bound(path, 0);
         match self.entry(place) {
@@ -242,17 +252,17 @@ impl Index {
         }
     }
 
-    /// The entry at the path and the stage, or None, as
-    /// [`entry_index_by_path_and_stage`](Index::entry_index_by_path_and_stage) has its place.
+    /// Returns the entry with the path and the stage, or `None`. It is the one that
+    /// [`entry_index_by_path_and_stage`](Index::entry_index_by_path_and_stage) finds.
     #[must_use]
     pub fn entry_by_path_and_stage(&self, path: &[u8], stage: u32) -> Option<Entry<'_>> {
         self.entry(self.entry_index_by_path_and_stage(path, stage)?)
     }
 
-    /// The places of the entries whose path begins with the bytes of the prefix, counted from 0, or None where there
-    /// are none. The empty prefix has all places, also of no entries: `0..0`.
+    /// Returns the range of indices of the entries whose path begins with the bytes of the prefix, counted from 0, or
+    /// `None` if there are none. The empty prefix has all indices, also if there are no entries: `0..0`.
     ///
-    /// Over entries whose paths never fall they are all such places. Over other entries they are places of the index.
+    /// If the paths are in order, the range has all such entries. For other entries it is a range of valid indices.
     #[must_use]
     pub fn prefixed_entries_range(&self, prefix: &[u8]) -> Option<Range<usize>> {
         let mut places = Places::default();
@@ -271,8 +281,8 @@ impl Index {
         (status != raw::NONE).then_some(places.start..places.end)
     }
 
-    /// The entries whose path begins with the bytes of the prefix, or None where there are none, as
-    /// [`prefixed_entries_range`](Index::prefixed_entries_range) has their places.
+    /// Returns the entries whose path begins with the bytes of the prefix, or `None` if there are none. They are those
+    /// of [`prefixed_entries_range`](Index::prefixed_entries_range).
     #[must_use]
     pub fn prefixed_entries(
         &self,
@@ -282,12 +292,12 @@ impl Index {
         Some(rows.iter().map(|row| self.lend(row)))
     }
 
-    /// Where entries stand at the directory, the first that stands for a directory itself, a sparse one or a
-    /// submodule, or None. Else the first entry below the directory: its path goes on behind the directory and a
-    /// slash.
+    /// Returns the entry that is closest to a directory. If entries have the directory's path, it is the first of them
+    /// that is a directory of a sparse index or a submodule, or `None`. Otherwise it is the first entry below the
+    /// directory: its path begins with the directory and a slash.
     ///
-    /// It is promised over entries whose paths never fall. Over other entries an entry that is given still is the
-    /// directory or stands below it.
+    /// This is guaranteed for entries whose paths are in order. For other entries, a returned entry still is the
+    /// directory or is below it.
     #[must_use]
     pub fn entry_closest_to_directory_or_directory(&self, directory: &[u8]) -> Option<Entry<'_>> {
         // SAFETY: each pointer goes with the length of its slice, and nothing is written.
@@ -304,8 +314,9 @@ impl Index {
         self.entry(place)
     }
 
-    /// The first entry that stands for the directory itself, a sparse one or a submodule, or below it, with the case of
-    /// ASCII letters ignored; or None. The entries may be in any order, and each is looked at up to that one.
+    /// Returns the first entry that is the directory itself (of a sparse index, or a submodule) or is below it, or
+    /// `None`. The case of ASCII letters is ignored. The entries may be in any order, and each up to the result is
+    /// compared.
     #[must_use]
     pub fn entry_closest_to_directory_or_directory_icase(&self, directory: &[u8]) -> Option<Entry<'_>> {
         // SAFETY: each pointer goes with the length of its slice, and nothing is written.
@@ -322,8 +333,8 @@ impl Index {
         self.entry(place)
     }
 
-    /// The entry at the path: that at stage 0, or else that at stage 2, our side of a merge, or else None; as
-    /// [`entry_by_path_and_stage`](Index::entry_by_path_and_stage) finds them.
+    /// Returns the entry at the path: that at stage 0, otherwise that at stage 2, our side of a merge, otherwise
+    /// `None`. They are those that [`entry_by_path_and_stage`](Index::entry_by_path_and_stage) finds.
     #[must_use]
     pub fn entry_by_path(&self, path: &[u8]) -> Option<Entry<'_>> {
         self.entry_by_path_and_stage(path, 0).or_else(|| self.entry_by_path_and_stage(path, 2))

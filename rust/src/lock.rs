@@ -1,4 +1,5 @@
-//! Locking the index at a path, and writing in its place.
+// SPDX-License-Identifier: MIT OR Apache-2.0
+//! Locks the index at a path, and replaces it.
 
 use crate::read::{Opened, or_default};
 use crate::write::{CachedTree, Options, VersionChoice};
@@ -10,10 +11,10 @@ use std::io::{self, Write};
 use std::path::{Path, PathBuf};
 use std::time::{SystemTime, UNIX_EPOCH};
 
-/// How many symbolic links are followed to the file that is locked, as git does.
+/// The largest number of symbolic links that are followed to the file that is locked, as in git.
 const MOST_LINKS: usize = 5;
 
-/// A lock file, which is removed where it is dropped while it is held.
+/// A lock file. It is removed if it is dropped while it is held.
 struct LockFile {
     path: PathBuf,
     is_held: bool,
@@ -22,16 +23,17 @@ struct LockFile {
 impl Drop for LockFile {
     fn drop(&mut self) {
         if self.is_held {
-            // (there is no one to tell a failure to)
+            // (there is no caller to whom a failure can be returned)
             let _ = fs::remove_file(&self.path);
         }
     }
 }
 
-/// The index at a path, locked: until this is committed or dropped, nobody writes it who heeds the lock, as git does.
+/// A lock on the index at a path. Until it is committed or dropped, git and other programs that respect the lock don't
+/// write the index.
 ///
-/// What is read meanwhile, mostly by [`open`](Locked::open), is what a commit replaces, so that no change of another
-/// process is lost. Dropped, it leaves the index as it was, and removes the lock file.
+/// What is read under the lock, usually by [`open`](Locked::open), is what a commit replaces. So no change of another
+/// process is lost. If it is dropped, the index is unchanged, and the lock file is removed.
 #[must_use = "dropped, it gives the lock up"]
 pub struct Locked {
     file: File,
@@ -41,7 +43,7 @@ pub struct Locked {
     opened: Option<Kept>,
 }
 
-/// What is kept of the index that was opened under the lock.
+/// What is stored of the index that was opened under the lock.
 struct Kept {
     bytes: Vec<u8>,
     kind: Kind,
@@ -64,7 +66,7 @@ fn fault(path: &Path) -> impl FnOnce(io::Error) -> Error {
     move |error| Error::Io { path: path.into(), error }
 }
 
-/// What stands at a path, a link among others, or None where nothing does.
+/// Returns the metadata of the file at a path, without following a link, or `None` if there is none.
 fn seen_at(path: &Path) -> Result<Option<Metadata>, Error> {
     match fs::symlink_metadata(path) {
         Ok(seen) => Ok(Some(seen)),
@@ -73,7 +75,8 @@ fn seen_at(path: &Path) -> Result<Option<Metadata>, Error> {
     }
 }
 
-/// The same, where it is a regular file.
+/// Returns the metadata of the file at a path, or `None` if there is none. If it isn't a regular file, this is an
+/// error.
 fn file_at(path: &Path) -> Result<Option<Metadata>, Error> {
     match seen_at(path)? {
         Some(seen) if !seen.is_file() => Err(Error::NotRegular { path: path.into(), found: seen.file_type() }),
@@ -81,7 +84,7 @@ fn file_at(path: &Path) -> Result<Option<Metadata>, Error> {
     }
 }
 
-/// The path that another one names behind all symbolic links.
+/// Returns the path at the end of all symbolic links.
 fn behind_links(path: &Path) -> Result<PathBuf, Error> {
     let mut target = path.to_path_buf();
     for links in 0..=MOST_LINKS {
@@ -98,14 +101,14 @@ fn behind_links(path: &Path) -> Result<PathBuf, Error> {
     Err(Error::TooManyLinks { path: path.into() })
 }
 
-/// The path with `.lock` behind it.
+/// Returns the path with `.lock` appended.
 fn lock_path(path: &Path) -> PathBuf {
     let mut lock = OsString::from(path);
     lock.push(".lock");
     lock.into()
 }
 
-/// Makes a lock file.
+/// Creates a lock file.
 fn made(path: PathBuf) -> Result<(File, LockFile), Error> {
     match File::create_new(&path) {
         Ok(file) => Ok((file, LockFile { path, is_held: true })),
@@ -114,14 +117,14 @@ fn made(path: PathBuf) -> Result<(File, LockFile), Error> {
     }
 }
 
-/// Whether a time may be given to an index. By one whose seconds are 0, of which git looks at 32 bits, git would trust
-/// every entry.
+/// Returns whether an index may get this time. git reads 32 bits of the seconds. With 0 seconds it would trust every
+/// entry.
 fn is_time(time: &SystemTime) -> bool {
     time.duration_since(UNIX_EPOCH).map_or(true, |since| since.as_secs() as u32 != 0)
 }
 
 impl Locked {
-    /// Locks, as [`Index::lock`] does.
+    /// Acquires the lock, for [`Index::lock`].
     fn new(path: &Path) -> Result<Locked, Error> {
         if path.as_os_str().is_empty() {
             return Err(fault(path)(io::Error::new(io::ErrorKind::NotFound, "an empty path names no file")));
@@ -136,45 +139,46 @@ impl Locked {
         Ok(Locked { file, lock, path, old, opened: None })
     }
 
-    /// The file that is locked: the path that was given, behind all symbolic links.
+    /// Returns the path of the file that is locked: the given path with all symbolic links followed.
     #[must_use]
     pub fn path(&self) -> &Path {
         &self.path
     }
 
-    /// Whether there is an index to be replaced.
+    /// Returns whether there is an index to be replaced.
     pub(crate) fn is_there(&self) -> bool {
         self.old.is_some()
     }
 
-    /// Reads the index that is locked, as [`Index::open`] does, and keeps its bytes: [`commit`](Locked::commit) then
-    /// keeps what they have and a change leaves right.
+    /// Reads the index that is locked, as [`Index::open`] does, and stores its bytes. Then [`commit`](Locked::commit)
+    /// preserves the extensions that are still valid after a change.
     pub fn open(&mut self, kind: Kind) -> Result<Index, Error> {
         let Opened { index, bytes, shared_id } = Opened::at(&self.path, kind)?;
         self.opened = Some(Kept { bytes, kind, version: index.version, shared_id });
         Ok(index)
     }
 
-    /// The same, or an index with no entry where no file is there yet.
+    /// Reads the index that is locked as [`open`](Locked::open) does. Returns an index with no entry if there is no
+    /// file yet.
     pub fn open_or_default(&mut self, kind: Kind) -> Result<Index, Error> {
         let opened = self.open(kind);
         or_default(opened, &self.path, kind)
     }
 
-    /// All bytes of the index that was [opened](Locked::open).
+    /// Returns all bytes of the index that was [opened](Locked::open).
     #[must_use]
     pub fn bytes(&self) -> Option<&[u8]> {
         Some(&self.opened.as_ref()?.bytes)
     }
 
-    /// The id of the shared index that the index which was [opened](Locked::open) links to. Its entries are those of
-    /// both, and what is committed has them all and no link.
+    /// Returns the id of the shared index that the [opened](Locked::open) index links to. The index has the entries of
+    /// both. A commit writes all of them and no link.
     #[must_use]
     pub fn shared_id(&self) -> Option<&[u8]> {
         self.opened.as_ref()?.shared_id.as_deref()
     }
 
-    /// Puts the bytes to the lock file, and lets it take the place of the index.
+    /// Writes the bytes to the lock file, and renames it to the index.
     pub(crate) fn replace(self, bytes: &[u8], timestamp: Option<SystemTime>, sync: bool) -> Result<(), Error> {
         let Locked { mut file, mut lock, path, old, .. } = self;
         let old = old.and_then(|old| old.modified().ok());
@@ -191,19 +195,23 @@ impl Locked {
         Ok(())
     }
 
-    /// Writes an index in place of the one that is locked, and tells what became of that one's cached tree.
+    /// Replaces the index that is locked, and returns what happened to its cached tree.
     ///
-    /// Where that was [opened](Locked::open), with ids of the same kind, this is what
-    /// [`write_to_over`](Index::write_to_over) gives over its bytes, with all extensions that still fit the entries.
-    /// Version 4 is kept too, where the options don't ask for another. Else it is what
-    /// [`write_to`](Index::write_to) gives, without extensions.
+    /// If that index was [opened](Locked::open), with ids of the same hash algorithm, this writes the bytes of
+    /// [`write_to_over`](Index::write_to_over). They preserve all extensions that are still valid. Version 4 is
+    /// preserved too, unless the options ask for another. Otherwise this writes the bytes of
+    /// [`write_to`](Index::write_to), without extensions.
     ///
-    /// The file has the permissions of the one that it takes the place of, or else those that the umask leaves. Its
-    /// time is the index's [`timestamp`](Index::timestamp), so that git looks at each file that it would have looked at
-    /// beside the index that was read; where there is none, that of the old index; and where there was no such, that of
-    /// its making. A time of 0 seconds isn't put, as git would trust every entry by it.
+    /// The file has the permissions of the index that it replaces, or those that the umask leaves. Its time is the
+    /// first of these that exists:
     ///
-    /// After an error the index is as it was. The lock file is gone in each case, if that can be done.
+    /// - the index's [`timestamp`](Index::timestamp), so that git compares each file that it would have compared with
+    ///   the index that was read;
+    /// - the time of the old index;
+    /// - the time of its creation.
+    ///
+    /// A time of 0 seconds isn't set, because git would trust every entry by it. After an error the index is unchanged.
+    /// The lock file is removed in each case, if possible.
     pub fn commit(mut self, index: &Index, mut options: Options) -> Result<CachedTree, Error> {
         let opened = self.opened.take().filter(|opened| opened.kind == index.kind);
         if options.version == VersionChoice::Kept && opened.as_ref().is_some_and(|opened| opened.version == 4) {
@@ -214,7 +222,8 @@ impl Locked {
         Ok(tree)
     }
 
-    /// The same of what [`write_to_over`](Index::write_to_over) gives over these bytes of an index.
+    /// Replaces the index that is locked by the bytes that [`write_to_over`](Index::write_to_over) writes over `bytes`.
+    /// Otherwise this is [`commit`](Locked::commit).
     pub fn commit_over(self, index: &Index, bytes: &[u8], options: Options) -> Result<CachedTree, Error> {
         let (bytes, tree) = index.write_to_over(bytes, options)?;
         self.replace(&bytes, index.timestamp, options.sync)?;
@@ -223,13 +232,19 @@ impl Locked {
 }
 
 impl Index {
-    /// Locks the index at a path as git locks it, to read it, change it and write it without a loss: what
-    /// [`Locked::open`] reads is what [`Locked::commit`] replaces.
+    /// Locks the index at a path as git locks it. Then it can be read, changed and written without losing a change:
+    /// [`Locked::commit`] replaces what [`Locked::open`] reads.
     ///
-    /// Symbolic links are followed first, five at most; a sixth is [`Error::TooManyLinks`]. What the last one names
-    /// needn't be there. Where it is a directory, a device, a fifo or a socket, the error is [`Error::NotRegular`].
-    /// Then the lock file is made, that path with `.lock` behind it; where it is there already, the error is
-    /// [`Error::Locked`]. After an error all files are as they were.
+    /// First, symbolic links are followed. The target of a link has to exist. If the path isn't a link, the file need
+    /// not exist. Then the lock file is created: the target's path with `.lock` appended. After an error all files are
+    /// unchanged.
+    ///
+    /// # Errors
+    ///
+    /// - [`Error::TooManyLinks`] for more than five symbolic links.
+    /// - [`Error::LeadsNowhere`] if the target of a link doesn't exist.
+    /// - [`Error::NotRegular`] if the target is a directory, a device, a fifo or a socket.
+    /// - [`Error::Locked`] if the lock file exists.
     pub fn lock(path: impl AsRef<Path>) -> Result<Locked, Error> {
         Locked::new(path.as_ref())
     }

@@ -1,5 +1,6 @@
-//! The calls of `libindex_c.a`, as `c/gix_index.h` declares them. Numbers and fields are compared by `test_numbers`,
-//! the rest by `test_linked` alone.
+// SPDX-License-Identifier: MIT OR Apache-2.0
+//! The calls of `libgix_index.a`, as `c/gix_index.h` declares them. `test_numbers` compares numbers and fields; only
+//! `test_linked` tests the rest.
 
 pub const DONE: u32 = 0;
 pub const MEMORY: u32 = 2;

@@ -1,10 +1,11 @@
-//! Giving the trees of an index.
+// SPDX-License-Identifier: MIT OR Apache-2.0
+//! Builds the tree objects of an index.
 
 use crate::raw::{self, Tree, Given};
 use crate::{Error, Index, room};
 
 impl Index {
-    /// Puts the trees into the rooms, and tells of them; Err where there is less room than is told.
+    /// Writes the trees to `trees` and `bytes`. The inner error has the sizes that are needed, if there is less room.
     fn put_trees(&self, trees: &mut [Tree], bytes: &mut [u8]) -> Result<Result<(), Given>, Error> {
         let mut told = Given::default();
         // SAFETY: each pointer goes with the length of its slice, and what is written is apart from the rest.
@@ -30,7 +31,7 @@ impl Index {
         }
     }
 
-    /// All trees, and the bytes among which theirs stand.
+    /// Returns all trees, and the bytes that they refer to.
     fn trees(&self) -> Result<(Vec<Tree>, Vec<u8>), Error> {
         if self.has_link {
             return Err(Error::Split);
@@ -42,16 +43,19 @@ impl Index {
         Ok((trees, bytes))
     }
 
-    /// Gives each tree that `git write-tree` makes of the entries to the closure, by its id and with its bytes, as
-    /// `git cat-file tree` prints them; and then gives the id of the root's. Each comes behind those that it names, the
-    /// root's last, so that a store can take them in this order. The closure isn't called again after an error.
+    /// Calls the closure with each tree that `git write-tree` makes of the entries: its id, and its bytes, as `git
+    /// cat-file tree` prints them. Returns the id of the root. Each tree follows the trees that it names, and the root
+    /// is the last, so a store can take them in this order. After an error of the closure it isn't called again.
     ///
-    /// The entries have to strictly increase by path, then stage. One with
-    /// [`REMOVE`](crate::flags::REMOVE) is passed over, and one with
-    /// [`INTENT_TO_ADD`](crate::flags::INTENT_TO_ADD) stands in no tree. [`Error::Refused`] tells the first that can't
-    /// stand in one, before the closure is called: one that is in conflict, by
-    /// [`Fault::Unmerged`](crate::Fault::Unmerged), among others. An index with a link is [`Error::Split`], as it lacks
-    /// the entries that its shared index has. Whether the objects that entries name are there isn't looked at.
+    /// The entries have to strictly increase by path, then stage. An entry with [`REMOVE`](crate::flags::REMOVE) is
+    /// skipped. One with [`INTENT_TO_ADD`](crate::flags::INTENT_TO_ADD) is in no tree. Whether the objects that entries
+    /// name exist isn't checked.
+    ///
+    /// # Errors
+    ///
+    /// - [`Error::Refused`] for the first entry that can't be in a tree, before the closure is called. For example, an
+    ///   entry in conflict is [`Fault::Unmerged`](crate::Fault::Unmerged).
+    /// - [`Error::Split`] for an index with a link, because it lacks the entries of its shared index.
     pub fn write_trees<E: From<Error>>(
         &self,
         mut put: impl FnMut(&[u8], &[u8]) -> Result<(), E>,

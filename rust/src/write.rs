@@ -1,14 +1,15 @@
-//! Writing an index as bytes, and to its path.
+// SPDX-License-Identifier: MIT OR Apache-2.0
+//! Writes an index as bytes, and to its path.
 
 use crate::raw::{self, Form, Written};
 use crate::{Error, Index, room};
 use std::path::Path;
 
-/// How many bytes an index has at most beside its paths: at each entry, and beside all.
+/// The largest number of bytes of an index other than its paths: for each entry, and in addition to all entries.
 const PER_ENTRY: usize = 96;
 const BESIDE_ENTRIES: usize = 44;
 
-/// How many bytes these entries have at most as an index without extensions.
+/// Returns the largest number of bytes of these entries as an index without extensions.
 pub(crate) fn most_bytes(index: &Index) -> usize {
     let paths: usize = index.rows.iter().map(|row| row.path_len).sum();
     BESIDE_ENTRIES + PER_ENTRY * index.rows.len() + paths
@@ -17,35 +18,35 @@ pub(crate) fn most_bytes(index: &Index) -> usize {
 /// Which version is written.
 #[derive(Clone, Copy, Debug, Default, PartialEq, Eq, Hash)]
 pub enum VersionChoice {
-    /// 4 where the index was read from a file of version 4, or replaces such a file that [`Locked`](crate::Locked)
-    /// opened; and else the smallest.
+    /// 4 if the index was read from a file of version 4, or replaces such a file that [`Locked`](crate::Locked) opened.
+    /// Otherwise the smallest.
     #[default]
     Kept,
-    /// 3 where an entry has [`EXTENDED`](crate::flags::EXTENDED), and else 2.
+    /// 3 if an entry has [`EXTENDED`](crate::flags::EXTENDED), otherwise 2.
     Smallest,
     /// 4, in which paths are shortened.
     V4,
 }
 
-/// How to write.
+/// The options of writing.
 #[derive(Clone, Copy, Debug, Default, PartialEq, Eq, Hash)]
 pub struct Options {
     /// Which version is written.
     pub version: VersionChoice,
-    /// Whether the trailer is zeros in place of the digest (git's `index.skipHash`).
+    /// Whether the trailer is zeros instead of the digest (git's `index.skipHash`).
     pub skip_hash: bool,
-    /// Whether a file is synced to the disk before it takes the index's place. git by its defaults doesn't sync it.
+    /// Whether a file is synced to the disk before it replaces the index. git by default doesn't sync it.
     pub sync: bool,
 }
 
-/// What became of the cached tree of an index that was written over (gitformat-index, "Cache tree").
+/// What happened to the cached tree of an index that was replaced (gitformat-index, "Cache tree").
 #[derive(Clone, Copy, Debug, PartialEq, Eq, Hash)]
 pub enum CachedTree {
     /// There was none.
     None,
-    /// It is kept, as it tells what the entries give.
+    /// It is preserved, because it matches the entries.
     Kept,
-    /// It is left out, as it doesn't.
+    /// It is left out, because it doesn't match the entries.
     LeftOut,
 }
 
@@ -60,8 +61,8 @@ impl CachedTree {
 }
 
 impl Index {
-    /// Puts the index into the room, over another where its bytes are given, and tells of it; Err where there is less
-    /// room than is told.
+    /// Writes the index to `bytes`, over another index if its bytes are given. The inner error has the size that is
+    /// needed, if there is less room.
     fn put(&self, over: Option<&[u8]>, options: Options, bytes: &mut [u8]) -> Result<Result<Written, usize>, Error> {
         let version = match options.version {
             VersionChoice::Kept if self.version == 4 => 4,
@@ -106,7 +107,7 @@ impl Index {
         }
     }
 
-    /// All bytes of the index, and what became of the other's cached tree.
+    /// Returns all bytes of the index, and what happened to the other's cached tree.
     pub(crate) fn image(&self, over: Option<&[u8]>, options: Options) -> Result<(Vec<u8>, CachedTree), Error> {
         if self.has_link {
             return Err(Error::Split);
@@ -125,39 +126,47 @@ impl Index {
 
     /// Writes the index as all bytes of a file: the entries and the digest, and no extension.
     ///
-    /// The entries have to strictly increase by path, then stage, which [`sort_entries`](Index::sort_entries) does
-    /// where no two agree in both; and each has a path without a NUL, and isn't a directory of a sparse index, whose
-    /// mark is an extension. [`Error::Refused`] tells the first that isn't so, by [`Fault::Row`](crate::Fault::Row) and
-    /// [`Fault::Order`](crate::Fault::Order). An index with a link is [`Error::Split`], as it lacks the entries that
-    /// its shared index has.
+    /// The entries have to strictly increase by path, then stage. [`sort_entries`](Index::sort_entries) orders them so
+    /// if no two have equal paths and stages. Each has a path without a NUL, and isn't a directory of a sparse index,
+    /// whose mark is an extension.
+    ///
+    /// # Errors
+    ///
+    /// - [`Error::Refused`] with [`Fault::Row`](crate::Fault::Row) or [`Fault::Order`](crate::Fault::Order) for the
+    ///   first entry that doesn't meet this.
+    /// - [`Error::Split`] for an index with a link, because it lacks the entries of its shared index.
     pub fn write_to(&self, options: Options) -> Result<Vec<u8>, Error> {
         Ok(self.image(None, options)?.0)
     }
 
-    /// The same, in place of an index, given as all bytes of its file: mostly of the one that this was read from.
+    /// Writes the index as all bytes of a file that replaces another index, given as all bytes of its file. Usually
+    /// this is the one from which the entries were read.
     ///
-    /// The mark of a sparse index is kept, and then entries may be directories of one. So is its cached tree, where it
-    /// tells what the entries give, as `git write-tree` makes trees of them; else it is left out, and which is told. Its
-    /// stages of resolved conflicts are kept, and, where the entries are its own, its untracked cache and what a file
-    /// system monitor said.
-    /// [`Error::Refused`] tells a fault of those bytes first, as [`from_bytes`](Index::from_bytes) does, without words.
+    /// The mark of a sparse index is preserved, and then entries may be directories of one. The cached tree is
+    /// preserved if it matches the entries, as `git write-tree` makes trees of them. Otherwise it is left out; the
+    /// second value returns which. Stages of resolved conflicts are preserved. If the entries are those of the other
+    /// index, its untracked cache and the data of a file system monitor are preserved too.
+    ///
+    /// The errors are those of [`write_to`](Index::write_to). Before them, [`Error::Refused`] is the first error in the
+    /// other bytes, as [`from_bytes`](Index::from_bytes) returns it, without a message.
     pub fn write_to_over(&self, index: &[u8], options: Options) -> Result<(Vec<u8>, CachedTree), Error> {
         self.image(Some(index), options)
     }
 
-    /// Writes the index to a path, which is locked once the bytes are there: an index that was read before may have
-    /// been changed meanwhile, and the change is lost. [`Index::lock`] is safe beside git.
+    /// Writes the index to a path, which is locked once the bytes are ready. If the file was changed after it was read,
+    /// the change is lost. [`Index::lock`] is safe if git writes concurrently.
     ///
-    /// What [`write_to`](Index::write_to) gives goes to the lock file, which then takes the index's place, so that the
-    /// path has the old index or the new one at each moment. Permissions, time and errors are those of
-    /// [`Index::lock`] and [`Locked::commit`](crate::Locked::commit). After an error the path is as it was; a lock file
-    /// that was there is left.
+    /// The bytes of [`write_to`](Index::write_to) are written to the lock file, which then replaces the index. So the
+    /// path has the old index or the new one at each moment. Permissions, time and errors are those of [`Index::lock`]
+    /// and [`Locked::commit`](crate::Locked::commit). After an error the path is unchanged; a lock file that existed is
+    /// left.
     pub fn write(&self, path: impl AsRef<Path>, options: Options) -> Result<(), Error> {
         let bytes = self.write_to(options)?;
         Index::lock(path)?.replace(&bytes, self.timestamp, options.sync)
     }
 
-    /// The same of what [`write_to_over`](Index::write_to_over) gives over these bytes of an index.
+    /// Writes the index to a path as [`write`](Index::write) does, but with the bytes that
+    /// [`write_to_over`](Index::write_to_over) writes over `index`.
     pub fn write_over(&self, path: impl AsRef<Path>, index: &[u8], options: Options) -> Result<CachedTree, Error> {
         let (bytes, tree) = self.write_to_over(index, options)?;
         Index::lock(path)?.replace(&bytes, self.timestamp, options.sync)?;

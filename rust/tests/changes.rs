@@ -1,3 +1,4 @@
+// SPDX-License-Identifier: MIT OR Apache-2.0
 //! Holds changes of an index against what they make of its entries, and what is refused. `tests/linked` at the top of
 //! the repository runs it, and holds the same call from C against git.
 

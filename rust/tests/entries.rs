@@ -1,3 +1,4 @@
+// SPDX-License-Identifier: MIT OR Apache-2.0
 //! Holds setters and getters of entries, their order and their removal, and the numbers of faults against constants
 //! that are spelled here. `tests/linked` at the top of the repository runs it.
 

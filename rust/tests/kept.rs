@@ -1,3 +1,4 @@
+// SPDX-License-Identifier: MIT OR Apache-2.0
 //! Holds what is kept of an index that is written over against what was there, and a split index that is read and
 //! checked with its shared one against the entries of both. `tests/linked` at the top of the repository runs it.
 //!

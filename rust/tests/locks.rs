@@ -1,3 +1,4 @@
+// SPDX-License-Identifier: MIT OR Apache-2.0
 //! Holds locks on an index against what they keep, and what a commit leaves. `tests/linked` at the top of the
 //! repository runs it, and `tests/live` has git work beside them.
 

@@ -1,3 +1,4 @@
+// SPDX-License-Identifier: MIT OR Apache-2.0
 //! Holds what searches of an index find against a look at each entry. `tests/linked` at the top of the repository runs
 //! it.
 //!

@@ -1,3 +1,4 @@
+// SPDX-License-Identifier: MIT OR Apache-2.0
 //! Holds the trees that are given of an index against those of git, whose ids stand here. `tests/linked` at the top of
 //! the repository runs it, and holds the same call from C against git over each of its repositories.
 

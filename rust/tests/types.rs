@@ -1,3 +1,4 @@
+// SPDX-License-Identifier: MIT OR Apache-2.0
 //! Holds what the public types are beside what they do: shown, compared, and sent to threads. `tests/linked` at the top
 //! of the repository runs it.
 

@@ -1,3 +1,4 @@
+// SPDX-License-Identifier: MIT OR Apache-2.0
 //! Holds what is written of an index against what is read again. `tests/linked` at the top of the repository runs it.
 //!
 //! GIX_INDEX_SHA1 and GIX_INDEX_SHA256 name files, whose entries are in order. Without them only what is made here is

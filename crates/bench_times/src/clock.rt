@@ -1,11 +1,11 @@
-//! The time that this thread was on a processor.
+//! The processor time of this thread.
 
 use std::{fs, io};
 
-/// The system whose clock is looked at, or None for a clock that is off.
+/// The system whose clock is read, or `None` if no time is measured.
 pub type Clock<'a> = Option<&'a HostRuntime>;
 
-/// The nanoseconds that this thread was on a processor, as the system counts them, or 0 by a clock that is off.
+/// Returns the nanoseconds that this thread ran on a processor, as the system counts them, or 0 if no time is measured.
 pub fn now(clock: Clock<'_>) -> io::Result<u64> {
     let Some(rt) = clock else {
         return Ok(0);
@@ -20,7 +20,7 @@ pub fn now(clock: Clock<'_>) -> io::Result<u64> {
     }
 }
 
-/// The nanoseconds since then.
+/// Returns the nanoseconds since `begin`.
 pub fn since(clock: Clock<'_>, begin: u64) -> io::Result<u64> {
     Ok(now(clock)?.saturating_sub(begin))
 }

@@ -1,4 +1,4 @@
-//! Staging many paths at once, and pushing them and sorting.
+//! Edits of an index: many paths are staged at once, or pushed and then sorted.
 
 use crate::clock::{self, Clock};
 use crate::tree::AnyName;
@@ -10,7 +10,7 @@ use gix_index::hash::ObjectId;
 use std::alloc::{AllocError, Global};
 use std::io;
 
-/// A file, with an id of ones.
+/// Returns an entry of a plain file with the id of bytes 1.
 fn new_entry() -> Pathless {
     Pathless {
         stat: Stat::default(),
@@ -20,7 +20,7 @@ fn new_entry() -> Pathless {
     }
 }
 
-/// The names, each as one that is staged.
+/// Returns a change for each name that stages it.
 fn changes_of<'a>(alloc: Global, names: &[&'a [u8]]) -> Result<Vec<Change<'a>>, AllocError> {
     let mut changes = Vec::with_capacity(alloc, names.len())?;
     for &path in names {
@@ -41,7 +41,7 @@ fn push(state: &mut State, names: &[&[u8]]) -> Result<(), AllocError> {
     Ok(())
 }
 
-/// Stages all names.
+/// Stages all names and returns the nanoseconds.
 fn apply(clock: Clock<'_>, state: &mut State, changes: &[Change<'_>]) -> io::Result<u64> {
     let begin = clock::now(clock)?;
     match state.apply(&AnyName, changes) {
@@ -50,7 +50,7 @@ fn apply(clock: Clock<'_>, state: &mut State, changes: &[Change<'_>]) -> io::Res
     }
 }
 
-/// Pushes all names, and sorts.
+/// Pushes all names, sorts the entries, and returns the nanoseconds.
 fn push_and_sort(clock: Clock<'_>, state: &mut State, names: &[&[u8]]) -> io::Result<u64> {
     let begin = clock::now(clock)?;
     push(state, names)?;
@@ -58,8 +58,8 @@ fn push_and_sort(clock: Clock<'_>, state: &mut State, names: &[&[u8]]) -> io::Re
     clock::since(clock, begin)
 }
 
-/// Puts the names into the index in one of two ways, and gives the nanoseconds of processor time that it took and how
-/// many entries there are then. Another word is [`InvalidInput`](io::ErrorKind::InvalidInput).
+/// Adds the names to the index by `apply` or by `sort`. Returns the nanoseconds of processor time and the number of
+/// entries afterwards. For another `call` the error is [`InvalidInput`](io::ErrorKind::InvalidInput).
 pub fn run(
     clock: Clock<'_>,
     alloc: Global,

@@ -1,11 +1,11 @@
-//! Looking names up in an index.
+//! Lookups of names in an index.
 
 use crate::clock::{self, Clock};
 use gix_index::{AccelerateLookup, State, count_present};
 use std::alloc::Global;
 use std::io;
 
-/// The calls that can be made. The last two make a table, and look nothing up.
+/// The calls that can be made. The last two build a table and look up nothing.
 pub const CALLS: [&str; 12] = [
     "path",
     "entry",
@@ -21,14 +21,15 @@ pub const CALLS: [&str; 12] = [
     "make-folded",
 ];
 
-/// What a call gave.
+/// The result of a call.
 #[derive(Clone, Copy)]
 pub struct Found {
-    /// The nanoseconds of processor time that it took, 0 by a clock that is off.
+    /// The nanoseconds of processor time, or 0 if no time is measured.
     pub nanoseconds: u64,
-    /// How many of the names it found, or how many directories the table has that it made.
+    /// The number of names that were found, or of directories in the table that was built.
     pub count: usize,
-    /// How many directories the table has with the case of ASCII letters ignored, where it has such.
+    /// The number of directories in the table if the case of ASCII letters is ignored. `None` if the table is
+    /// case-sensitive.
     pub folded: Option<usize>,
 }
 
@@ -42,7 +43,7 @@ impl Found {
     }
 }
 
-/// How many of the names have an entry, are a prefix of one's path, or are a directory.
+/// Returns how many of the names have an entry, are a prefix of an entry's path, or are a directory.
 fn count_in_state(state: &State, call: &str, names: &[&[u8]]) -> usize {
     match call {
         "path" => count_present(state, names),
@@ -93,7 +94,7 @@ fn count_directories(state: &State, names: &[&[u8]]) -> usize {
     count
 }
 
-/// How many of the names are paths of entries by the table.
+/// Returns how many of the names are paths of entries, looked up in the table.
 fn count_folded_paths(lookup: &AccelerateLookup<'_>, ignore_case: bool, names: &[&[u8]]) -> usize {
     let mut count = 0usize;
     for name in names {
@@ -104,7 +105,7 @@ fn count_folded_paths(lookup: &AccelerateLookup<'_>, ignore_case: bool, names: &
     count
 }
 
-/// How many of the names are directories by the table.
+/// Returns how many of the names are directories, looked up in the table.
 fn count_folded_directories(
     lookup: &AccelerateLookup<'_>,
     ignore_case: bool,
@@ -119,7 +120,7 @@ fn count_folded_directories(
     count
 }
 
-/// Makes the table that ignores case, and looks the names up in it unless only its making is asked for.
+/// Builds the case-insensitive table. Then looks up the names in it, unless the call only builds the table.
 fn run_folded(
     clock: Clock<'_>,
     alloc: Global,
@@ -147,7 +148,7 @@ fn run_folded(
     Ok(Found::new(clock::since(clock, begin)?, count))
 }
 
-/// The same of the table of directories.
+/// Builds the table of directories. Then looks up the names in it, unless the call only builds the table.
 fn run_table(
     clock: Clock<'_>,
     alloc: Global,
@@ -168,9 +169,13 @@ fn run_table(
     Ok(Found::new(clock::since(clock, begin)?, count))
 }
 
-/// Makes one of the [`CALLS`], or with `load` none at all. Another word is
-/// [`InvalidInput`](io::ErrorKind::InvalidInput), and entries out of order under a table of directories are
-/// [`InvalidData`](io::ErrorKind::InvalidData).
+/// Makes one of the [`CALLS`], or none for `load`.
+///
+/// # Errors
+///
+/// - [`InvalidInput`](io::ErrorKind::InvalidInput) for another `call`.
+/// - [`InvalidData`](io::ErrorKind::InvalidData) if the call needs a table of directories and the entries aren't in
+///   order.
 pub fn run(
     clock: Clock<'_>,
     alloc: Global,

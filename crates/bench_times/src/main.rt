@@ -1,29 +1,37 @@
-//! `index-times`: what the library's calls find in an index and write of it, and how long they take.
+//! `index-times`: measures the library's calls on an index, and prints what they find and write.
 //!
-//! `check INDEX NAMES` makes each call for all the names and prints a line for it: its name, and how many names it
-//! finds; of a table that is made, how many directories it has, with case kept and where it has such with case ignored.
-//! Then the index is written, with its digest and with zeros in its place; two lines say how many bytes that takes and
-//! how many of these, from the first on, are as they were read. No time is looked at.
+//! `check INDEX NAMES` makes each call for all names. It measures no time. For each call it prints a line:
 //!
-//! `lookup CALL INDEX NAMES` makes one call, or with `load` none, and prints the nanoseconds of processor time that it
-//! took for all names together, and then the same numbers.
+//! - the call's name and the number of names that it finds;
+//! - for a call that builds a table, the number of its directories instead, case-sensitive and, if the table has them,
+//!   case-insensitive.
 //!
-//! `write INDEX` prints the nanoseconds of processor time that it takes to read the index without a look at its digest,
-//! to write it with zeros in the place of the digest, and to write it with its digest; and how many bytes it has.
+//! Then it writes the index, with its digest and with a null digest. Two lines have the number of bytes, and how many
+//! of them equal those that were read, counted from the first.
 //!
-//! `whole CALL INDEX` prints the nanoseconds of processor time that a call takes on the whole index, and how many
-//! entries there are behind it: `open` reads the file with its digest, and `open-bare` without a look at it, each with
-//! the index that it shares; `sort`, `remove` (each second entry), `verify` and `copy` work on an index that was read
+//! `lookup CALL INDEX NAMES` makes one call, or none for `load`. It prints the nanoseconds of processor time for all
+//! names together, and then the numbers that `check` prints.
+//!
+//! `write INDEX` prints the nanoseconds of processor time of three calls, and then the number of bytes of the index:
+//!
+//! - reading the index without a check of its digest,
+//! - writing it with a null digest,
+//! - writing it with its digest.
+//!
+//! `whole CALL INDEX` prints the nanoseconds of processor time of a call on the complete index, and the number of
+//! entries after it. `open` reads the file and checks its digest, `open-bare` doesn't check it. Both read the shared
+//! index of a split index. `sort`, `remove` (every second entry), `verify` and `copy` work on an index that was read
 //! before.
 //!
-//! `edit CALL INDEX NAMES` prints the nanoseconds of processor time that it takes to put an entry for each name into the
-//! index, and how many entries there are then: `apply` stages them, `sort` pushes them and sorts.
+//! `edit CALL INDEX NAMES` adds an entry for each name to the index. It prints the nanoseconds of processor time and
+//! the number of entries afterwards. `apply` stages them, `sort` pushes them and sorts.
 //!
-//! `list-tree ROOT FILE` makes an index of a tree, which is no measurement. FILE has trees as `git cat-file --batch`
-//! prints them: the one with the id ROOT, and all below it. For each entry are printed its mode in six octal digits, a
-//! space, its id, a tab, its path and a NUL; and in a line at the end, whether the entries are in order.
+//! `list-tree ROOT FILE` makes an index of a tree, and measures no time. FILE has trees as `git cat-file --batch`
+//! prints them: the tree with the id ROOT and all trees below it. For each entry it prints the mode (six octal digits),
+//! the id and the path. A space follows the mode, a tab the id and a NUL the path. The last line states whether the
+//! entries are in order.
 //!
-//! INDEX is an index of SHA-1, and NAMES has a name a line. All is done in memory.
+//! INDEX is an index of SHA-1. NAMES has one name in each line. All work is done in memory.
 #![tactic(auto)]
 
 mod clock;
@@ -42,7 +50,7 @@ use std::alloc::Global;
 use std::path::PathBuf;
 use std::{env, fs, io};
 
-/// The index of these bytes, whose digest isn't looked at. Bytes of no index are
+/// Decodes the index without a check of its digest. If the bytes are no index, the error is
 /// [`InvalidData`](io::ErrorKind::InvalidData).
 fn index_of(alloc: Global, bytes: &[u8]) -> io::Result<File> {
     let path = PathBuf::from_str(alloc, "index")?;
@@ -61,7 +69,7 @@ fn index_of(alloc: Global, bytes: &[u8]) -> io::Result<File> {
     }
 }
 
-/// The names, a line each.
+/// Returns the lines of the text.
 fn names_of(alloc: Global, text: &str) -> io::Result<Vec<&[u8]>> {
     let mut names = Vec::new(alloc);
     for line in text.lines() {
@@ -70,7 +78,7 @@ fn names_of(alloc: Global, text: &str) -> io::Result<Vec<&[u8]>> {
     Ok(names)
 }
 
-/// How many bytes two lists have in common, from the first on.
+/// Returns the length of the longest common prefix.
 fn common_len(one: &[u8], other: &[u8]) -> usize {
     one.iter()
         .zip(other.iter())
@@ -78,7 +86,7 @@ fn common_len(one: &[u8], other: &[u8]) -> usize {
         .count()
 }
 
-/// Prints what a call gave.
+/// Prints the result of a call.
 fn put_found(rt: &HostRuntime, found: Found) -> io::Result<()> {
     match found.folded {
         Some(folded) => println!(rt; "{} {folded}", found.count),
@@ -86,7 +94,7 @@ fn put_found(rt: &HostRuntime, found: Found) -> io::Result<()> {
     }
 }
 
-/// Makes each call, and writes the index.
+/// Makes each call and writes the index.
 fn check(rt: &HostRuntime, alloc: Global, index: &str, names: &str) -> io::Result<()> {
     let (bytes, text) = (fs::read(rt, index)?, fs::read_to_string(rt, names)?);
     let (file, names) = (index_of(alloc, &bytes)?, names_of(alloc, &text)?);
@@ -101,7 +109,7 @@ fn check(rt: &HostRuntime, alloc: Global, index: &str, names: &str) -> io::Resul
     println!(rt; "write-bare {} {}", bare.len(), common_len(&bare, &bytes))
 }
 
-/// Times one call.
+/// Measures one call.
 fn lookup(rt: &HostRuntime, alloc: Global, call: &str, index: &str, names: &str) -> io::Result<()> {
     let (bytes, text) = (fs::read(rt, index)?, fs::read_to_string(rt, names)?);
     let (file, names) = (index_of(alloc, &bytes)?, names_of(alloc, &text)?);
@@ -110,7 +118,7 @@ fn lookup(rt: &HostRuntime, alloc: Global, call: &str, index: &str, names: &str)
     put_found(rt, found)
 }
 
-/// Times an edit.
+/// Measures an edit.
 fn edit(rt: &HostRuntime, alloc: Global, call: &str, index: &str, names: &str) -> io::Result<()> {
     let (bytes, text) = (fs::read(rt, index)?, fs::read_to_string(rt, names)?);
     let (mut file, names) = (index_of(alloc, &bytes)?, names_of(alloc, &text)?);
@@ -118,7 +126,7 @@ fn edit(rt: &HostRuntime, alloc: Global, call: &str, index: &str, names: &str) -
     println!(rt; "{nanoseconds} {count}")
 }
 
-/// Times reading and writing.
+/// Measures reading and writing.
 fn write(rt: &HostRuntime, alloc: Global, index: &str) -> io::Result<()> {
     let clock: Clock<'_> = Some(rt);
     let bytes = fs::read(rt, index)?;
@@ -130,7 +138,7 @@ fn write(rt: &HostRuntime, alloc: Global, index: &str) -> io::Result<()> {
     println!(rt; "{reading} {bare} {hashed} {}", bytes.len())
 }
 
-/// Times one call on the whole index.
+/// Measures one call on the complete index.
 fn on_whole(rt: &HostRuntime, alloc: Global, call: &str, index: &str) -> io::Result<()> {
     let (nanoseconds, count) = match call {
         "open" => whole::open(rt, alloc, index, false)?,

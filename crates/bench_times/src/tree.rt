@@ -18,13 +18,13 @@ use std::collections::BTreeMap;
 use std::fs;
 use std::io::{self, BufWriter, Write};
 
-/// How many trees are read at most.
+/// The largest number of trees that are read.
 const MAX_TREES: usize = 1_000_000;
 
-/// What is said of a file that has something else.
+/// The error message for a file in another format.
 const MALFORMED: &str = "the file isn't made of trees as `git cat-file --batch` prints them";
 
-/// Lets all names pass.
+/// A check that accepts all names.
 #[derive(Clone, Copy)]
 pub struct AnyName;
 
@@ -59,12 +59,12 @@ impl Find for Trees<'_> {
     }
 }
 
-/// The id that digits of base 16 encode.
+/// Decodes an id from digits of base 16.
 fn id_of(alloc: Global, word: &str) -> Option<ObjectId> {
     ObjectId::from_bytes(&hex::decode(alloc, word).ok()?)
 }
 
-/// The id and the length of the tree that a line is about.
+/// Parses a header line. Returns the id and the length of the tree that follows it.
 fn header(alloc: Global, line: &[u8]) -> Option<(ObjectId, usize)> {
     let mut words = str::from_utf8(line).ok()?.split(' ');
     let id = id_of(alloc, words.next()?)?;
@@ -74,7 +74,7 @@ fn header(alloc: Global, line: &[u8]) -> Option<(ObjectId, usize)> {
     Some((id, words.next()?.parse::<usize>().ok()?))
 }
 
-/// The tree at the front with its id, and what is behind it.
+/// Parses the first tree. Returns its id, its bytes, and the bytes after it.
 fn front_of(alloc: Global, bytes: &[u8]) -> Option<(ObjectId, &[u8], &[u8])>
     ensures { IfSome result (λ x. length x.2.now < length bytes.now) }
 {
@@ -87,7 +87,7 @@ fn front_of(alloc: Global, bytes: &[u8]) -> Option<(ObjectId, &[u8], &[u8])>
     Some((id, tree, rest))
 }
 
-/// The trees that `git cat-file --batch` printed, one after another. What is none ends them.
+/// An iterator over the trees that `git cat-file --batch` printed. Bytes that are no tree are an error and end it.
 #[derive(Clone, Copy)]
 struct Printed<'a> {
     alloc: Global,
@@ -112,7 +112,7 @@ impl<'a> Iterator for Printed<'a> {
     }
 }
 
-/// The trees that were printed.
+/// Returns all trees that were printed.
 fn trees_of(alloc: Global, bytes: &[u8]) -> anyhow::Result<Trees<'_>> {
     let mut by_id = BTreeMap::new(alloc);
     for printed in (Printed { alloc, rest: bytes }) {
@@ -122,7 +122,7 @@ fn trees_of(alloc: Global, bytes: &[u8]) -> anyhow::Result<Trees<'_>> {
     Ok(Trees { by_id })
 }
 
-/// Prints the entries.
+/// Prints the entries, and whether they are in order.
 fn put_entries<W: Write>(out: &mut W, state: &State) -> io::Result<()> {
     for entry in state.entries() {
         write!(out, "{:06o} {}\t", entry.mode.bits(), entry.id)?;
@@ -136,8 +136,8 @@ fn put_entries<W: Write>(out: &mut W, state: &State) -> io::Result<()> {
     }
 }
 
-/// Makes an index of the tree with the id ROOT, and prints it. FILE has that tree and all below it, as
-/// `git cat-file --batch` prints them.
+/// Makes an index of the tree with the id `root` and prints its entries. `file` has that tree and all trees below it,
+/// as `git cat-file --batch` prints them.
 pub fn list(rt: &HostRuntime, alloc: Global, root: &str, file: &str) -> anyhow::Result<()> {
     let root = id_of(alloc, root).ok_or(anyhow::Error::msg(
         "ROOT isn't an id of 40 or 64 hex digits",

@@ -1,4 +1,4 @@
-//! Calls on a whole index.
+//! Calls on a complete index.
 
 use crate::clock::{self, Clock};
 use gix_index::entry::FileTime;
@@ -8,8 +8,9 @@ use std::alloc::Global;
 use std::io;
 use std::path::PathBuf;
 
-/// Reads the index of SHA-1 in the file at a path and the one that it shares, where it does, with a look at the digest
-/// or without. A fault of the file is [`InvalidData`](io::ErrorKind::InvalidData).
+/// Reads the index of SHA-1 at a path, and the shared index if it is split. Returns the nanoseconds and the number of
+/// entries. `skip_hash` omits the check of the digest. If the file can't be read, the error is
+/// [`InvalidData`](io::ErrorKind::InvalidData).
 pub fn open(
     rt: &HostRuntime,
     alloc: Global,
@@ -33,14 +34,14 @@ fn sort(clock: Clock<'_>, state: &mut State) -> io::Result<u64> {
     clock::since(clock, begin)
 }
 
-/// Takes each second entry out.
+/// Removes every second entry.
 fn remove(clock: Clock<'_>, state: &mut State) -> io::Result<u64> {
     let begin = clock::now(clock)?;
     state.remove_entries(|place, _, _| place % 2 == 1);
     clock::since(clock, begin)
 }
 
-/// Looks whether the entries are in order; any answer will do.
+/// Checks whether the entries are in order, and ignores the result.
 fn verify(clock: Clock<'_>, state: &State) -> io::Result<u64> {
     let begin = clock::now(clock)?;
     let _ = state.verify_entries();
@@ -53,8 +54,8 @@ fn copy(clock: Clock<'_>, state: &State) -> io::Result<u64> {
     clock::since(clock, begin)
 }
 
-/// Makes a call on all entries, and gives the nanoseconds of processor time that it took and how many entries there are
-/// then. Another word is [`InvalidInput`](io::ErrorKind::InvalidInput).
+/// Makes a call on all entries. Returns the nanoseconds of processor time and the number of entries afterwards. For
+/// another `call` the error is [`InvalidInput`](io::ErrorKind::InvalidInput).
 pub fn run(clock: Clock<'_>, call: &str, state: &mut State) -> io::Result<(u64, usize)> {
     let nanoseconds = match call {
         "sort" => sort(clock, state)?,

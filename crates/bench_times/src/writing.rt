@@ -6,8 +6,8 @@ use gix_index::{File, write};
 use std::alloc::Global;
 use std::io;
 
-/// The index as it is written into room for so many bytes that was made before, and the nanoseconds that this took, 0
-/// by a clock that is off. With `skip_hash` zeros stand in the place of the digest. An index that can't be written is
+/// Writes the index to memory with a capacity of `room` bytes. Returns the nanoseconds, or 0 if no time is measured,
+/// and the bytes. With `skip_hash` the digest is null. If the index can't be written, the error is
 /// [`InvalidData`](io::ErrorKind::InvalidData).
 pub fn written(
     clock: Clock<'_>,

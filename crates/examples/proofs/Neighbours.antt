@@ -30,8 +30,8 @@ use Rattle.gix_index.specs.OrderError.{Error}
 use Rattle.gix_index.specs.OrderError.TheVariants.{Memory, OutOfOrder}
 use Rattle.gix_index.specs.Record.{Record}
 use Rattle.gix_index.specs.Sorted.{IsFall, IsOrdered}
-use Rattle.gix_index.specs.SoundState.{SaysFall}
-use Rattle.examples.specs.Listed.{SaysTwice, record_of}
+use Rattle.gix_index.specs.SoundState.{OrderCause}
+use Rattle.examples.specs.Listed.{RepeatedPathCause, listed_record}
 use Rattle.examples.specs.declared.tree_builder.Listed.{Listed}
 
 total : IsTotalOrder record_cmp
@@ -58,8 +58,8 @@ fallen rs place ordered fall d =
     (ap (λ k. is_lt (record_cmp (slice_index_or rs k d) (slice_index_or rs (place - 1) d))) (sym e)
     ∙ ordered (place - 1) d (omega arith) inside))
 
-pub says_twice : (files : List Listed) (rs : List Record) (e : Error) → IsPermutation (map record_of files) rs
-    → IsOrdered rs → SaysFall rs e → SaysTwice files e
+pub says_twice : (files : List Listed) (rs : List Record) (e : Error) → IsPermutation (map listed_record files) rs
+    → IsOrdered rs → OrderCause rs e → RepeatedPathCause files e
 says_twice files rs (OutOfOrder place path stage previous_path previous_stage) of_files ordered said =
     let fall : IsFall rs place = said.0.0 in
     record {

@@ -4,15 +4,15 @@ use Rattle.gix_index.specs.Record.{Record}
 use Rattle.gix_index.specs.Range.{is_at}
 use Rattle.examples.specs.declared.merge.Side.{Side}
 
--- the record of one side of a conflict: its flags have the stage, in bits 12 and 13, and nothing else
-abbrev pub stage_of : List ℕ → ℕ → Side → Record
-stage_of path stage side =
+-- The record of one side of a conflict. Its flags have the stage in bits 12 and 13, and no other bit.
+abbrev pub side_record : List ℕ → ℕ → Side → Record
+side_record path stage side =
     record { path = path; stat = side.stat; id = side.id; flags = stage * 4096; mode = side.mode.0 }
 
--- the records of a path in conflict
+-- The records of a path in conflict.
 abbrev pub stages : List ℕ → Side → Side → Side → List Record
-stages path base ours theirs = stage_of path 1 base ∷ (stage_of path 2 ours ∷ (stage_of path 3 theirs ∷ []))
+stages path base ours theirs = side_record path 1 base ∷ (side_record path 2 ours ∷ (side_record path 3 theirs ∷ []))
 
--- the records at other paths
+-- The records at other paths.
 abbrev pub elsewhere : List ℕ → List Record → List Record
 elsewhere path rs = filter (λ r. not (is_at path r)) rs

@@ -1,7 +1,7 @@
-//! `examples checkout INDEX DIRECTORY`: the paths that a checkout of one directory writes.
+//! `examples checkout INDEX DIRECTORY`: prints the paths that a checkout of one directory writes.
 //!
-//! INDEX is an index of SHA-1. Its paths below the directory are printed, each on a line, as
-//! `git ls-files -- DIRECTORY/` prints plain ones.
+//! INDEX is an index of SHA-1. Each path below the directory is printed on a line. Plain paths are printed as `git
+//! ls-files -- DIRECTORY/` prints them. For example: `out/examples checkout ../../.git/index docs`.
 
 ghost use Rattle.std.specs.Prelude.{◌≡◌, IfOk, filter};
 ghost use Rattle.gix_index.specs.Closest.{is_below};
@@ -17,8 +17,8 @@ use std::fs;
 use std::io::{self, BufWriter, Write};
 use std::path::PathBuf;
 
-/// The entries below a directory, at any depth, all of them and in the order of the index. The directory's name ends
-/// without a slash. An entry that stands for the directory itself isn't below it.
+/// Returns all entries below a directory, at any depth, in the order of the index. `directory` has no slash at its end.
+/// An entry for the directory itself isn't below it.
 fn entries_below<'a>(
     alloc: Global,
     state: &'a State,

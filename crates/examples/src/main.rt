@@ -1,6 +1,6 @@
-//! `examples NAME WORDS`: users of the library, each a module with what it needs and a contract of its own.
+//! `examples NAME WORDS`: examples of how to use the library. Each is a module with a contract of its own.
 //!
-//! NAME is that of a module, with `tree-builder` for `tree_builder`. Each module says what its words are, and what it
+//! NAME is the name of a module, with `tree-builder` for `tree_builder`. The module describes its arguments and what it
 //! prints.
 #![tactic(auto)]
 

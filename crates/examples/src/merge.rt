@@ -1,13 +1,14 @@
-//! `examples merge OURS BASE THEIRS PATH`: an index in which a path is in conflict.
+//! `examples merge OURS BASE THEIRS PATH`: prints an index in which a path is in conflict.
 //!
-//! OURS, BASE and THEIRS are indexes of SHA-1 that have the path, each with its own file. Printed are the entries of
-//! OURS with the path in conflict, as `git ls-files --stage` prints them, where paths are plain.
+//! OURS, BASE and THEIRS are indexes of SHA-1 that have the path, each with its own file. The entries of OURS are
+//! printed with the path in conflict. Plain paths are printed as `git ls-files --stage` prints them. For example:
+//! `out/examples merge ../../.git/index data/base.index data/theirs.index docs/a.md`.
 
 ghost use Rattle.std.specs.Prelude.{◌≡◌, ◌++◌, ◌∷◌, [], IfOk, IsPermutation, OnOk};
 ghost use Rattle.gix_index.specs.Flags.{stage_code};
 ghost use Rattle.gix_index.specs.Sorted.{IsOrdered};
 ghost use Rattle.gix_index.specs.State.{PathsInStorage, records};
-ghost use Rattle.examples.specs.Conflict.{elsewhere, stage_of, stages};
+ghost use Rattle.examples.specs.Conflict.{elsewhere, side_record, stages};
 
 use gix_index::entry::{FileTime, Flags, Mode, Stage, Stat};
 use gix_index::hash::{Kind, ObjectId};
@@ -24,18 +25,18 @@ struct Side {
     stat: Stat,
 }
 
-/// Puts one side at the end, at a stage.
+/// Pushes an entry for one side, with this stage.
 fn push_side(state: &mut State, path: &[u8], stage: Stage, side: Side) -> Result<(), AllocError>
     ensures pushed { OnOk result (PathsInStorage state.old → records state.new
-        ≡ records state.old ++ stage_of path.now (stage_code stage) side ∷ []) }
+        ≡ records state.old ++ side_record path.now (stage_code stage) side ∷ []) }
     ensures placed { OnOk result (PathsInStorage state.old → PathsInStorage state.new) }
 {
     let Side { mode, id, stat } = side;
     state.dangerously_push_entry(stat, id, Flags::from_stage(stage), mode, path)
 }
 
-/// Puts a path in conflict: its entries go, the sides come in as the stages 1, 2 and 3, and all entries are in order
-/// then. After a refusal of memory some of the sides may be missing.
+/// Replaces the entries at a path by the three sides, as stages 1, 2 and 3, and sorts the entries. If an allocation
+/// fails, some of the sides may be missing.
 fn put_in_conflict(
     state: &mut State,
     path: &[u8],
@@ -63,7 +64,7 @@ fn index_at(rt: &HostRuntime, alloc: Global, path: &str) -> anyhow::Result<State
     Ok(State::from_bytes(alloc, &bytes, FileTime::EPOCH, Kind::Sha1, options)?.0)
 }
 
-/// What an index has at a path that isn't in conflict.
+/// Returns the entry's values at a path that isn't in conflict.
 fn side_in(state: &State, path: &[u8]) -> anyhow::Result<Side> {
     let entry = state.entry_by_path_and_stage(path, Stage::Unconflicted);
     let entry = entry.ok_or(anyhow::Error::msg("a side lacks the path"))?;

@@ -1,9 +1,9 @@
-//! `examples repair INDEX OUT`: what is wrong with an index, or the index written again.
+//! `examples repair INDEX OUT`: prints the first error in an index, or writes the index again.
 //!
-//! INDEX is an index of SHA-1. Where its bytes are none, the name of their first fault is printed, and what it says.
-//! Else the index is written to OUT, a new file, with its cached tree and a digest that fits, also where that of INDEX
-//! doesn't, and the number of bytes of both is printed. (What is there already may be an index that git works with: that
-//! is locked before it is read, as `tree-builder` has it.)
+//! INDEX is an index of SHA-1. If its bytes can't be decoded, the name and the message of their first error are
+//! printed. Otherwise the index is written to the new file OUT, with its cache tree extension (TREE) and with a digest
+//! that matches, even if INDEX has none. The number of bytes of both is printed. (OUT has to be new. An existing file
+//! may be an index that git uses, which has to be locked before it is read. See `tree-builder`.)
 
 ghost use Rattle.std.specs.Prelude.{◌≡◌, IfOk};
 ghost use Rattle.examples.specs.Repaired.{IsRepaired, name_of};
@@ -21,7 +21,7 @@ use std::io::Write as _;
 use std::path::PathBuf;
 use thiserror::Error;
 
-/// All extensions that are written but the end marker.
+/// The options to write all extensions except the end marker.
 const OPTIONS: Options = Options {
     extensions: Extensions::Given {
         tree_cache: true,
@@ -40,15 +40,15 @@ enum Fault {
     Mistakable,
 }
 
-/// What the bytes of an index come to.
+/// What [`repair`] returns for the bytes of an index.
 enum Repaired {
-    /// They are none: the name of their first fault, and that fault.
+    /// The bytes can't be decoded. The values are the name of their first error, and that error.
     Faulty(&'static str, decode::Error),
     /// The bytes of the index that was written again.
     Again(Vec<u8>),
 }
 
-/// The name of what is wrong with bytes that are no index.
+/// Returns the name of an error of decoding.
 fn name(fault: &decode::Error) -> &'static str
     ensures { result.now ≡ name_of fault.now }
 {
@@ -66,8 +66,8 @@ fn name(fault: &decode::Error) -> &'static str
     }
 }
 
-/// The first fault of an index's bytes, by its name, or else the bytes of the index written again, by options that ask
-/// for no end marker: read again they give what a file keeps of it, and nothing else.
+/// Returns the first error in the bytes with its name, or the bytes of the index written again. `options` has to ask
+/// for no end marker. Reading the new bytes gives exactly what a file stores of the index.
 fn repair(alloc: Global, bytes: &[u8], kind: Kind, options: Options) -> Result<Repaired, Fault>
     ensures { IfOk result (IsRepaired kind options bytes.now) }
 {

@@ -1,7 +1,7 @@
-//! `examples sample INDEX PATH`: what the README at the top shows of the library.
+//! `examples sample INDEX PATH`: the sample of the README at the top.
 //!
-//! INDEX is an index of SHA-1. Printed are the id that it has staged at the path, or `none`, and how many bytes the
-//! index has written again.
+//! INDEX is an index of SHA-1. The program prints the id that is staged at the path, or `none`, and the number of bytes
+//! of the index written again.
 
 use gix_index::entry::{FileTime, Stage};
 use gix_index::hash::io::Plain;
@@ -11,7 +11,7 @@ use std::alloc::Global;
 use std::fs;
 use std::path::PathBuf;
 
-/// The id that an index has staged at a path, if any, and the bytes of the index written again.
+/// Returns the id that an index has staged at a path, if any, and the bytes of the index written again.
 fn id_and_bytes(
     alloc: Global,
     bytes: &[u8],

@@ -1,9 +1,12 @@
-//! `examples status INDEX SECONDS LIST`: the paths of an index whose files may have changed.
+//! `examples status INDEX SECONDS LIST`: prints the paths of an index whose files may have changed.
 //!
-//! INDEX is an index of SHA-1 that was written at so many SECONDS since the begin of 1970, as `stat -c %Y INDEX` prints
-//! it. LIST has the files of the work tree as `stat -c '%Y %Z %d %i %u %g %s %n'` prints them, each once. A path is
-//! printed on a line where no file is there, where its stat isn't the one that is listed, or where the entry is as
-//! young as the index.
+//! INDEX is an index of SHA-1. SECONDS is the time at which it was written, in seconds since 1970, as `stat -c %Y
+//! INDEX` prints it. LIST has each file of the work tree once, as `stat -c '%Y %Z %d %i %u %g %s %n'` prints it. A path
+//! is printed on a line if one of these holds:
+//!
+//! - No file is there.
+//! - The stat of the file differs from that of the entry.
+//! - The entry is as new as the index.
 
 ghost use Rattle.std.specs.Prelude.{◌≡◌, IfOk, filter, map};
 ghost use Rattle.gix_index.specs.State.{contents, records};
@@ -18,14 +21,14 @@ use std::collections::BTreeMap;
 use std::fs;
 use std::io::{self, BufWriter, Write};
 
-/// The stat of the file that was seen at a path.
+/// Returns the stat of the file that was seen at a path.
 fn stat_at<'a>(seen: &BTreeMap<&'a [u8], Stat>, path: &'a [u8]) -> Option<Stat>
     ensures { result ≡ stat_seen seen.now path.now }
 {
     seen.get(&path).copied()
 }
 
-/// Whether a file may differ from what is listed: none is there, the stat differs, or the entry is too young to tell.
+/// Returns whether a file may differ from its entry: it is missing, its stat differs, or the entry is racy.
 fn differs(options: Options, time: FileTime, listed: &Stat, seen: Option<Stat>) -> bool
     ensures { result ≡ may_differ options time listed.now seen }
 {
@@ -35,8 +38,8 @@ fn differs(options: Options, time: FileTime, listed: &Stat, seen: Option<Stat>) 
     }
 }
 
-/// The paths of the entries that may have changed in the work tree, all of them and in the order of the index. A path
-/// that isn't among those that were seen has no file.
+/// Returns the paths of all entries that may have changed in the work tree, in the order of the index. A path that
+/// isn't in `seen` has no file.
 fn changed_paths<'a>(
     alloc: Global,
     state: &'a State,
@@ -57,19 +60,19 @@ fn changed_paths<'a>(
     Ok(paths)
 }
 
-/// The low 32 bits of a number in decimal digits.
+/// Returns the low 32 bits of a number in decimal digits.
 fn number(word: Option<&str>) -> Option<u32> {
     let n = word?.parse::<u64>().ok()?;
     Some((n % 0x1_0000_0000) as u32)
 }
 
-/// A time of whole seconds.
+/// Returns the time with these seconds.
 fn seconds(word: Option<&str>) -> Option<Time> {
     let secs = number(word)?;
     Some(Time { secs, nsecs: 0 })
 }
 
-/// The path and the stat of the file that a line is about.
+/// Parses a line. Returns the path and the stat of its file.
 fn file_in(line: &str) -> Option<(&[u8], Stat)> {
     let mut words = line.splitn(8, ' ');
     let stat = Stat {

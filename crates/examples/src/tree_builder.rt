@@ -1,17 +1,18 @@
-//! `examples tree-builder LIST OUT`: makes the trees of a list of files, and an index of it.
+//! `examples tree-builder LIST OUT`: builds the tree objects of a list of files, and an index of the list.
 //!
 //! LIST has lines as `git ls-files --stage` and `git ls-tree -r` print them, in any order: the mode in octal digits, an
-//! id of SHA-1, a tab and a path, and other words before the tab don't count. The index is written to OUT, which is
-//! locked as git locks an index. Printed are the id of the root, the number of entries, and the digest at the end of the file.
+//! id of SHA-1, a tab and a path. Other words before the tab are ignored. The index is written to OUT, which is locked
+//! as git locks an index. The program prints the id of the root, the number of entries, and the digest at the end of
+//! the file.
 
 ghost use Rattle.std.specs.Prelude.{◌≡◌, IfErr, IfOk, IsPermutation, None, map};
 ghost use Rattle.gix_index.specs.Order.{IsStrictlyOrdered};
 ghost use Rattle.gix_index.specs.State.{records};
-ghost use Rattle.examples.specs.Listed.{SaysTwice, record_of};
+ghost use Rattle.examples.specs.Listed.{RepeatedPathCause, listed_record};
 
 use gix_index::entry::{FileTime, Flags, Mode, Stage, Stat};
 use gix_index::file::System;
-use gix_index::file::lock::acquire;
+use gix_index::file::lock::{Durable, acquire};
 use gix_index::hash::{Kind, ObjectId};
 use gix_index::init::ComponentCheck;
 use gix_index::verify::entries;
@@ -21,7 +22,7 @@ use std::alloc::{AllocError, Global};
 use std::fs;
 use std::path::PathBuf;
 
-/// A file that an index is to list.
+/// A file that is listed for an index.
 #[derive(Clone, Copy)]
 struct Listed<'a> {
     mode: Mode,
@@ -30,9 +31,9 @@ struct Listed<'a> {
     path: &'a [u8],
 }
 
-/// The files as entries, in the order in which they are listed.
+/// Returns the files as entries, in the order of the list.
 fn unsorted(alloc: Global, kind: Kind, files: &[Listed<'_>]) -> Result<State, AllocError>
-    ensures { IfOk result (λ state. records state ≡ map record_of files.now) }
+    ensures { IfOk result (λ state. records state ≡ map listed_record files.now) }
 {
     let mut state = State::new(alloc, kind, FileTime::EPOCH);
     for file in files {
@@ -42,13 +43,13 @@ fn unsorted(alloc: Global, kind: Kind, files: &[Listed<'_>]) -> Result<State, Al
     Ok(state)
 }
 
-/// The index of the files that are listed, in any order: these and no others, in strict order. Where a path is listed
+/// Returns the index of exactly the listed files, in strict order. The list can be in any order. If a path is listed
 /// twice, the error names it.
 fn index_of(alloc: Global, kind: Kind, files: &[Listed<'_>]) -> Result<State, entries::Error>
     ensures ordered { IfOk result (λ state. IsStrictlyOrdered (records state)) }
     ensures exactly { IfOk result
-        (λ state. IsPermutation (map record_of files.now) (records state)) }
-    ensures twice { IfErr result (SaysTwice files.now) }
+        (λ state. IsPermutation (map listed_record files.now) (records state)) }
+    ensures twice { IfErr result (RepeatedPathCause files.now) }
 {
     let mut state = unsorted(alloc, kind, files)?;
     state.sort_entries()?;
@@ -56,7 +57,7 @@ fn index_of(alloc: Global, kind: Kind, files: &[Listed<'_>]) -> Result<State, en
     Ok(state)
 }
 
-/// Lets all names pass: those of the list were in a tree before.
+/// A check that accepts all names. The names of the list were in a tree before.
 struct AnyName;
 
 impl ComponentCheck for AnyName {
@@ -67,7 +68,7 @@ impl ComponentCheck for AnyName {
     }
 }
 
-/// The file that a line lists.
+/// Parses a line. Returns the file that it lists.
 fn file_in(alloc: Global, line: &str) -> Option<Listed<'_>> {
     let (head, path) = line.split_once('\t')?;
     let (mut words, path) = (head.split(' '), path.as_bytes());
@@ -100,7 +101,13 @@ pub fn run(rt: &HostRuntime, words: &[&str]) -> anyhow::Result<()> {
     let mut folder = System { rt };
     let lock = acquire(&mut folder, alloc, PathBuf::from_str(alloc, out)?)?;
     let mut file = File::from_state(state, PathBuf::new(alloc));
-    file.commit(&mut folder, alloc, lock, write::Options::default(), true)?;
+    file.commit(
+        &mut folder,
+        alloc,
+        lock,
+        write::Options::default(),
+        Durable::Yes,
+    )?;
     if let Some(checksum) = file.checksum() {
         println!(rt; "{} entries, {checksum}", file.entries().len())?;
     }

@@ -1,35 +1,35 @@
--- From what is said of one file to what is said of an index and the shared one.
-use Rattle.std.proofs.Common.{◌≡◌, ℕ, Bool, true, List, Option, Some, None, inl, inr, refl, subst}
+-- From the cause of an error in one file to its cause in an index and its shared index.
+use Rattle.std.proofs.Common.{◌≡◌, ℕ, Bool, true, List, Option, Some, None, inl, inr, refl, subst, sym}
 use Rattle.std.specs.Prelude.{Result, Ok, Err, IfErr, IfOk, IfSome}
 use Rattle.std.specs.declared.io.Error.{Error as IoError}
 use Rattle.index_parts.specs.declared.hash.Kind.{Kind}
 use Rattle.index_parts.specs.declared.hash.ObjectId.{ObjectId}
-use Rattle.index_metadata.specs.declared.entry.stat.FileTime.{FileTime}
-use Rattle.index_folder.proofs.Sizes.{own_fault_at}
-use Rattle.index_folder.specs.Sizes.{IsOwnFault}
-use Rattle.index_folder.specs.World.{Absent, Directory, Holds, IsFaultOf, Known, Leads, MayBe, Special, Stored, Unknown, World}
-use Rattle.index_folder.specs.World.{whole_of}
-use Rattle.index_folder.specs.declared.fault.PathError.{PathError}
-use Rattle.index_format.specs.Contents.{Contents}
-use Rattle.index_format.specs.declared.decode.Options.{Options}
-use Rattle.index_split.specs.Link.{LinkValue, Corrupt, BitmapDecode}
-use Rattle.index_split.specs.declared.link.decode.Error.{Error as LinkError}
-use Rattle.index_split.specs.declared.link.decode.Error.TheVariants as links
-use Rattle.index_state.specs.Dissolve.{SaysDissolve}
+use Rattle.entry_fields.specs.declared.entry.stat.FileTime.{FileTime}
+use Rattle.file_place.proofs.Sizes.{own_fault_at}
+use Rattle.file_place.specs.Sizes.{IsOwnFault}
+use Rattle.file_place.specs.World.{Absent, Directory, Holds, IsFaultOf, Known, Leads, MayBe, Special, Stored, Unknown, World}
+use Rattle.file_place.specs.World.{whole_of}
+use Rattle.file_place.specs.declared.fault.PathError.{PathError}
+use Rattle.index_model.specs.Contents.{Contents}
+use Rattle.index_model.specs.declared.decode.Options.{Options}
+use Rattle.ext_split.specs.Link.{LinkValue, Corrupt, BitmapDecode}
+use Rattle.ext_split.specs.declared.link.decode.Error.{Error as LinkError}
+use Rattle.ext_split.specs.declared.link.decode.Error.TheVariants as links
+use Rattle.index_state.specs.Dissolve.{DissolveCause}
 use Rattle.index_state.specs.Edits.{without_link}
 use Rattle.index_state.specs.State.{contents}
 use Rattle.gix_index.specs.declared.file.File.{File}
 use Rattle.gix_index.specs.File.{state_of, checksum_of}
-use Rattle.gix_index.specs.Checked.{IsFileAnswer, SaysFile}
-use Rattle.index_file_faults.specs.ReadErrors.{link_error_of}
+use Rattle.gix_index.specs.Checked.{IsFileAnswer, FileCause}
+use Rattle.file_errors.specs.ReadErrors.{IsOfCall, link_error_of}
 use Rattle.gix_index.specs.Disk.{Disk, MayHave, known_of, shared_path}
-use Rattle.gix_index.specs.FileFaults.{IsOfFile, SaysOfBoth, SaysOfFile, SaysOfFiles}
-use Rattle.gix_index.specs.Linked.{IsOnDisk, IsReadAlone, IsReadAs, IsSplit, expecting, own, joined}
+use Rattle.gix_index.specs.FileFaults.{IsOfFile, BothFilesCause, FileReadCause, FilesReadCause}
+use Rattle.gix_index.specs.Linked.{IsOnDisk, IsReadAlone, IsReadByItself, IsSplit, expecting, own, joined}
 use Rattle.gix_index.specs.ReadFile.{IsFileRead, IsFileReadKeeping}
 use Rattle.gix_index.specs.declared.file.unfollowed.Unfollowed.{Unfollowed}
-use Rattle.index_window.specs.declared.ReadOptions.{ReadOptions}
-use Rattle.index_file_faults.specs.declared.init.Error.{Error}
-use Rattle.index_file_faults.specs.declared.init.Error.TheVariants as errors
+use Rattle.file_windows.specs.declared.ReadOptions.{ReadOptions}
+use Rattle.file_errors.specs.declared.init.Error.{Error}
+use Rattle.file_errors.specs.declared.init.Error.TheVariants as errors
 
 -- what holds of an opened file that is known, holds of what is at the path
 pub opened_so : (k : Known) (stored : Option Stored) (P : Stored → Type 0) → MayBe k (λ there. stored ≡ Some there)
@@ -57,14 +57,25 @@ fault_of_opened k (Some file) e there (inl h) = own_fault_at k (Some file) e the
 fault_of_opened k None e there (inr h) = absurd h.1
 fault_of_opened k (Some file) e there (inr h) = absurd h.1
 
--- bytes that are those of an open file, where they are known
+-- The error of a call that failed for a file implies a cause in that file, whatever the file is read for and whatever
+-- is known of it. The premise is that the call may fail so for this file.
+pub call_says : (path : List ℕ) (error : IoError) (e : Error) → IsOfCall path error e → (works : Bool) (known : Known)
+    → (works ≡ true → IsFaultOf known error) → (skip : Bool) (kind : Kind) (time : FileTime) (options : Options)
+    → FileReadCause path works known skip kind time options e
+call_says path error (errors.Io fault) h works known is skip kind time options =
+    (h.0, h.1, λ w. subst (IsFaultOf known) (sym h.2) (is w))
+call_says path error (errors.Decode e) h works known is skip kind time options = absurd h
+call_says path error (errors.LinkExtension e) h works known is skip kind time options = absurd h
+call_says path error errors.Memory h works known is skip kind time options = tt
+
+-- these bytes are those of an open file, if they are known
 pub held_by : (stored : Option Stored) (bytes : List ℕ) → IfSome stored (λ whole. bytes ≡ whole.bytes)
     → MayHave (known_of stored) bytes
 held_by None bytes h = tt
 held_by (Some file) bytes h = h
 
 module _ (r : ReadOptions) (known : Known) where
-  -- what is read with the bytes behind its entries, or without, is read
+  -- what is read with the bytes after its entries, or without, is read
   pub file_read : (keeps : Bool) (u : Unfollowed) → IsFileReadKeeping keeps r known u → IsFileRead known r u.index
   file_read keeps u h = record { bytes = h.0; held = h.1; read = h.2.read }
 
@@ -77,8 +88,8 @@ module _ (r : ReadOptions) (known : Known) where
 module _ (skip : Bool) (kind : Kind) (time : FileTime) (options : Options) where
   -- the file that was opened is the one at the path
   pub read_there : (k : Known) (stored : Option Stored) (v : Contents) (c : Option ObjectId)
-      → MayBe k (λ there. stored ≡ Some there) → IsReadAs (known_of stored) skip kind time options v c
-      → IsReadAs k skip kind time options v c
+      → MayBe k (λ there. stored ≡ Some there) → IsReadByItself (known_of stored) skip kind time options v c
+      → IsReadByItself k skip kind time options v c
   read_there k stored v c e h = record {
     bytes = h.bytes;
     held = opened_so k stored (λ file. h.bytes ≡ file.bytes) e h.held;
@@ -93,8 +104,8 @@ module _ (skip : Bool) (kind : Kind) (time : FileTime) (options : Options) where
 
   pub fault_there : (path : List ℕ) (w fw : Bool) (k : Known) (stored : Option Stored) (e : Error)
       → (w ≡ true → fw ≡ true) → MayBe k (λ there. stored ≡ Some there)
-      → SaysOfFile path fw (known_of stored) skip kind time options e
-      → SaysOfFile path w k skip kind time options e
+      → FileReadCause path fw (known_of stored) skip kind time options e
+      → FileReadCause path w k skip kind time options e
   fault_there path w fw k stored (errors.Io fault) works o h = own_there path w fw k stored fault works o h
   fault_there path w fw k stored (errors.Decode e) works o h =
       (h.0, opened_so k stored (λ file. h.0 ≡ file.bytes) o h.1, h.2)
@@ -103,11 +114,11 @@ module _ (skip : Bool) (kind : Kind) (time : FileTime) (options : Options) where
 
   pub fault_read : {T : Type 0} (at path : List ℕ) (w fw : Bool) (world : World) (stored : Option Stored)
       (r : Result T Error) → at ≡ path → (w ≡ true → fw ≡ true) → MayBe (world at) (λ there. stored ≡ Some there)
-      → IfErr r (SaysOfFile path fw (known_of stored) skip kind time options)
-      → IfErr r (SaysOfFile path w (world path) skip kind time options)
+      → IfErr r (FileReadCause path fw (known_of stored) skip kind time options)
+      → IfErr r (FileReadCause path w (world path) skip kind time options)
   fault_read at path w fw world stored (Ok x) same works o h = tt
   fault_read at path w fw world stored (Err e) same works o h =
-      subst (λ (x : List ℕ). SaysOfFile path w (world x) skip kind time options e) same
+      subst (λ (x : List ℕ). FileReadCause path w (world x) skip kind time options e) same
       (fault_there path w fw (world at) stored e works o h)
 
   pub alone_there : (at path : List ℕ) (world : World) (stored : Option Stored) (r : Result Unfollowed Error)
@@ -152,8 +163,8 @@ module _ (skip : Bool) (kind : Kind) (time : FileTime) (options : Options) where
 
   pub faults_there : (path : List ℕ) (w : Bool) (k : Known) (stored : Option Stored) (shared : ObjectId → Known)
       (e : Error) → MayBe k (λ there. stored ≡ Some there)
-      → SaysOfFiles path w (record { own = known_of stored; shared = shared }) skip kind time options e
-      → SaysOfFiles path w (record { own = k; shared = shared }) skip kind time options e
+      → FilesReadCause path w (record { own = known_of stored; shared = shared }) skip kind time options e
+      → FilesReadCause path w (record { own = k; shared = shared }) skip kind time options e
   faults_there path w k stored shared (errors.Io fault) o (inl h) =
       inl (own_there path w w k stored fault (λ is. is) o h)
   faults_there path w k stored shared (errors.Io fault) o (inr h) = inr (record {
@@ -188,21 +199,22 @@ module _ (skip : Bool) (kind : Kind) (time : FileTime) (options : Options) where
 
   -- what is read of these bytes
   pub read_some : (known : Known) (bytes : List ℕ) (r : Result File Error) → MayHave known bytes
-      → SaysFile r (IsFileAnswer skip kind time options bytes)
-      → IfOk r (λ f. IsReadAs known skip kind time options (contents (state_of f)) (checksum_of f))
+      → FileCause r (IsFileAnswer skip kind time options bytes)
+      → IfOk r (λ f. IsReadByItself known skip kind time options (contents (state_of f)) (checksum_of f))
   read_some known bytes (Ok f) m h = record { bytes = bytes; held = m; read = h }
   read_some known bytes (Err e) m h = tt
 
-  -- what an error says of these bytes
+  -- what an error implies of these bytes
   pub of_bytes : (path : List ℕ) (works : Bool) (known : Known) (bytes : List ℕ) (e : Error) → MayHave known bytes
-      → SaysFile (Err e) (IsFileAnswer skip kind time options bytes) → SaysOfFile path works known skip kind time options e
+      → FileCause (Err e) (IsFileAnswer skip kind time options bytes) → FileReadCause path works known skip kind time options e
   of_bytes path works known bytes (errors.Io fault) m h = absurd h
   of_bytes path works known bytes (errors.Decode e) m h = (bytes, m, h)
   of_bytes path works known bytes (errors.LinkExtension e) m h = absurd h
   of_bytes path works known bytes errors.Memory m h = tt
 
   pub of_own : (path : List ℕ) (works : Bool) (disk : Disk) (e : Error)
-      → SaysOfFile path works disk.own skip kind time options e → SaysOfFiles path works disk skip kind time options e
+      → FileReadCause path works disk.own skip kind time options e
+      → FilesReadCause path works disk skip kind time options e
   of_own path works disk (errors.Io fault) h = inl h
   of_own path works disk (errors.Decode e) h = inl h
   of_own path works disk (errors.LinkExtension e) h = absurd h
@@ -210,8 +222,8 @@ module _ (skip : Bool) (kind : Kind) (time : FileTime) (options : Options) where
 
   pub of_shared : (path : List ℕ) (works : Bool) (disk : Disk) (split : Contents) (checksum : Option ObjectId) (link : LinkValue)
       (e : Error) → IsSplit disk.own skip kind time options split checksum link
-      → SaysOfFile (shared_path path link.shared) works (disk.shared link.shared) skip kind time
-      (expecting options link.shared) e → SaysOfFiles path works disk skip kind time options e
+      → FileReadCause (shared_path path link.shared) works (disk.shared link.shared) skip kind time
+      (expecting options link.shared) e → FilesReadCause path works disk skip kind time options e
   of_shared path works disk split checksum link (errors.Io fault) is h =
       inr (record { split = split; checksum = checksum; link = link; is_split = is; names = h })
   of_shared path works disk split checksum link (errors.Decode e) is h =
@@ -222,7 +234,7 @@ module _ (skip : Bool) (kind : Kind) (time : FileTime) (options : Options) where
   -- ---- of the bytes of both
 
   pub own_of_both : (disk : Disk) (bytes : List ℕ) (e : Error) → MayHave disk.own bytes
-      → SaysFile (Err e) (IsFileAnswer skip kind time options bytes) → SaysOfBoth disk skip kind time options e
+      → FileCause (Err e) (IsFileAnswer skip kind time options bytes) → BothFilesCause disk skip kind time options e
   own_of_both disk bytes (errors.Io fault) m h = absurd h
   own_of_both disk bytes (errors.Decode e) m h = inl (bytes, m, h)
   own_of_both disk bytes (errors.LinkExtension e) m h = absurd h
@@ -231,8 +243,8 @@ module _ (skip : Bool) (kind : Kind) (time : FileTime) (options : Options) where
   pub shared_of_both : (disk : Disk) (bytes : List ℕ) (split : Contents) (checksum : Option ObjectId) (link : LinkValue)
       (e : Error) → IsSplit disk.own skip kind time options split checksum link
       → MayHave (disk.shared link.shared) bytes
-      → SaysFile (Err e) (IsFileAnswer skip kind time (expecting options link.shared) bytes)
-      → SaysOfBoth disk skip kind time options e
+      → FileCause (Err e) (IsFileAnswer skip kind time (expecting options link.shared) bytes)
+      → BothFilesCause disk skip kind time options e
   shared_of_both disk bytes split checksum link (errors.Io fault) is m h = absurd h
   shared_of_both disk bytes split checksum link (errors.Decode e) is m h =
       inr (record { split = split; checksum = checksum; link = link; is_split = is; refuses = (bytes, m, h) })
@@ -242,8 +254,8 @@ module _ (skip : Bool) (kind : Kind) (time : FileTime) (options : Options) where
   pub link_of_both : (disk : Disk) (split : Contents) (checksum : Option ObjectId) (link : LinkValue)
       (shared : Contents) (shared_checksum : Option ObjectId) (e : LinkError)
       → IsSplit disk.own skip kind time options split checksum link
-      → IsReadAs (disk.shared link.shared) skip kind time (expecting options link.shared) shared shared_checksum
-      → SaysDissolve e link shared (without_link split) → SaysOfBoth disk skip kind time options (link_error_of e)
+      → IsReadByItself (disk.shared link.shared) skip kind time (expecting options link.shared) shared shared_checksum
+      → DissolveCause e link shared (without_link split) → BothFilesCause disk skip kind time options (link_error_of e)
   link_of_both disk split checksum link shared shared_checksum (links.Corrupt text) is read h = record {
     split = split;
     checksum = checksum;
@@ -270,8 +282,9 @@ module _ (skip : Bool) (kind : Kind) (time : FileTime) (options : Options) where
   }
   link_of_both disk split checksum link shared shared_checksum links.Memory is read h = tt
 
-  files_of_both : (path : List ℕ) (works : Bool) (disk : Disk) (e : Error) → SaysOfBoth disk skip kind time options e
-      → SaysOfFiles path works disk skip kind time options e
+  files_of_both : (path : List ℕ) (works : Bool) (disk : Disk) (e : Error)
+      → BothFilesCause disk skip kind time options e
+      → FilesReadCause path works disk skip kind time options e
   files_of_both path works disk (errors.Io fault) h = absurd h
   files_of_both path works disk (errors.Decode e) h = h
   files_of_both path works disk (errors.LinkExtension e) h = h
@@ -280,9 +293,9 @@ module _ (skip : Bool) (kind : Kind) (time : FileTime) (options : Options) where
   pub of_link : (path : List ℕ) (works : Bool) (disk : Disk) (split : Contents) (checksum : Option ObjectId) (link : LinkValue)
       (shared : Contents) (shared_checksum : Option ObjectId) (e : LinkError)
       → IsSplit disk.own skip kind time options split checksum link
-      → IsReadAs (disk.shared link.shared) skip kind time (expecting options link.shared) shared shared_checksum
-      → SaysDissolve e link shared (without_link split)
-      → SaysOfFiles path works disk skip kind time options (link_error_of e)
+      → IsReadByItself (disk.shared link.shared) skip kind time (expecting options link.shared) shared shared_checksum
+      → DissolveCause e link shared (without_link split)
+      → FilesReadCause path works disk skip kind time options (link_error_of e)
   of_link path works disk split checksum link shared shared_checksum e is read h =
       files_of_both path works disk (link_error_of e)
       (link_of_both disk split checksum link shared shared_checksum e is read h)
@@ -290,17 +303,17 @@ module _ (skip : Bool) (kind : Kind) (time : FileTime) (options : Options) where
   -- ---- what is read by itself, and then followed
 
   pub read_followed : (disk : Known → Disk) (known : Known) (v : Contents) (c : Option ObjectId) (r : Result File Error)
-      → IsReadAs known skip kind time options v c
-      → IfOk r (λ f. (own : Known) → IsReadAs own skip kind time options v c
+      → IsReadByItself known skip kind time options v c
+      → IfOk r (λ f. (own : Known) → IsReadByItself own skip kind time options v c
       → IsOnDisk (disk own) skip kind time options (contents (state_of f)) (checksum_of f))
       → IfOk r (λ f. IsOnDisk (disk known) skip kind time options (contents (state_of f)) (checksum_of f))
   read_followed disk known v c (Ok f) read h = h known read
   read_followed disk known v c (Err e) read h = tt
 
   pub fault_followed : (path : List ℕ) (works : Bool) (disk : Known → Disk) (known : Known) (v : Contents)
-      (c : Option ObjectId) (r : Result File Error) → IsReadAs known skip kind time options v c
-      → IfErr r (λ e. (own : Known) → IsReadAs own skip kind time options v c
-      → SaysOfFiles path works (disk own) skip kind time options e)
-      → IfErr r (SaysOfFiles path works (disk known) skip kind time options)
+      (c : Option ObjectId) (r : Result File Error) → IsReadByItself known skip kind time options v c
+      → IfErr r (λ e. (own : Known) → IsReadByItself own skip kind time options v c
+      → FilesReadCause path works (disk own) skip kind time options e)
+      → IfErr r (FilesReadCause path works (disk known) skip kind time options)
   fault_followed path works disk known v c (Ok f) read h = tt
   fault_followed path works disk known v c (Err e) read h = h known read

@@ -1,4 +1,4 @@
--- A trailer behind what was written.
+-- A trailer after the bytes that were written.
 use Rattle.std.proofs.Common.{◌≡◌, ℕ, Bool, true, false, cond, List, ◌++◌, Option, subst}
 use Rattle.std.specs.Io.KnownBytes.{Appends}
 use Rattle.index_parts.specs.Digest.{digest}
@@ -7,12 +7,12 @@ use Rattle.index_parts.specs.declared.hash.Kind.{Kind}
 use Rattle.index_parts.specs.Taking.{AppendsPrefix}
 use Rattle.index_parts.specs.declared.hash.ObjectId.{ObjectId}
 use Rattle.index_parts.proofs.Taking.{prefix_before, prefix_after}
-use Rattle.index_format.specs.declared.write.Error.{Error}
-use Rattle.index_format.specs.declared.write.Error.TheVariants as errors
-use Rattle.index_format.specs.declared.write.Options.{Options}
-use Rattle.index_format.specs.Image.{body, trailer}
-use Rattle.index_format.specs.Contents.{Contents}
-use Rattle.index_format.specs.Writing.{Fails}
+use Rattle.index_model.specs.declared.write.Error.{Error}
+use Rattle.index_model.specs.declared.write.Error.TheVariants as errors
+use Rattle.index_model.specs.declared.write.Options.{Options}
+use Rattle.index_model.specs.Image.{body, trailer}
+use Rattle.index_model.specs.Contents.{Contents}
+use Rattle.index_model.specs.Writing.{Fails}
 
 -- a fault before the rest
 pub fails_more : {S : Type 0} (taken : S → Option (List ℕ)) (failed : S → Bool) (a b : S) (e : Error) (xs ys : List ℕ)
@@ -28,7 +28,7 @@ pub front_then : {S : Type 0} (taken : S → Option (List ℕ)) (a b c : S) (xs 
 front_then taken a b c xs ys zs e p q =
     prefix_after (taken a) (taken b) (taken c) xs ys p (subst (λ (l : List ℕ). AppendsPrefix (taken b) (taken c) l) e q)
 
--- ---- the id behind a body, by the option
+-- ---- the id after a body, by the option
 
 hashed_by : (kind : Kind) (t : Bool) (zeros bytes : List ℕ) (id : ObjectId) → t ≡ false → id ≡ make_id kind bytes
     → id ≡ make_id kind (cond t zeros bytes)

@@ -4,17 +4,17 @@ use Rattle.std.proofs.Common.{◌∙◌}
 use Rattle.std.specs.Prelude.{◌⊎◌, MatchBool}
 use Rattle.index_parts.specs.declared.hash.Kind.{Kind}
 use Rattle.index_parts.specs.declared.hash.ObjectId.{ObjectId}
-use Rattle.index_metadata.specs.declared.entry.stat.FileTime.{FileTime}
-use Rattle.index_format.specs.declared.decode.Options.{Options}
-use Rattle.index_format.specs.Answer.{Answer, Verify, IsAnswer}
+use Rattle.entry_fields.specs.declared.entry.stat.FileTime.{FileTime}
+use Rattle.index_model.specs.declared.decode.Options.{Options}
+use Rattle.index_model.specs.Answer.{Answer, Verify, IsAnswer}
 use Rattle.index_state.specs.Edits.{without_link}
-use Rattle.index_split.specs.Link.{BitmapPair, LinkValue}
+use Rattle.ext_split.specs.Link.{BitmapPair, LinkValue}
 use Rattle.index_state.specs.Dissolve.{IsDissolved, MergesBy}
-use Rattle.index_format.specs.Contents.{Contents}
-use Rattle.index_format.specs.Storable.{IsStorable}
-use Rattle.index_format.proofs.ReadValues.{value_is}
+use Rattle.index_model.specs.Contents.{Contents}
+use Rattle.index_model.specs.Storable.{IsStorable}
+use Rattle.index_model.proofs.ReadValues.{value_is}
 use Rattle.gix_index.specs.Checked.{IsFileAnswer}
-use Rattle.index_window.specs.Intact.{needs_check, digest_id, trailer_id}
+use Rattle.file_windows.specs.Intact.{needs_check, digest_id, trailer_id}
 
 answer_by : (t : Bool) (E N : Type 0) (P : Type 0) (a f : Answer) (v : Contents) (c : Option ObjectId) (x y : ObjectId)
     → a ≡ Ok (v, c) → f ≡ Err (Verify x y) → MatchBool t ((E × P) ⊎ (N × (a ≡ f))) P → P

@@ -1,4 +1,3 @@
-mod Behind
 pub mod Checks
 mod FileFaults
 pub mod Files
@@ -6,14 +5,14 @@ pub mod Joined
 mod Puts
 mod ReadsBy
 mod Times
-pub use Rattle.index_entries.proofs.ReadRecords
-pub use Rattle.index_entries.proofs.Storing
-pub use Rattle.index_entry_reading.proofs.Readers
+pub use Rattle.entry_list.proofs.ReadRecords
+pub use Rattle.entry_list.proofs.Storing
+pub use Rattle.entry_decode.proofs.Readers
 pub use Rattle.index_extensions.proofs.Walks
 pub use Rattle.index_extensions.proofs.MarkerReadings
-pub use Rattle.index_folder.proofs.Moved
-pub use Rattle.index_format.proofs.OnceAnswers
-pub use Rattle.index_format.proofs.Outcomes
-pub use Rattle.index_lookups.proofs.RunFilters
+pub use Rattle.file_place.proofs.Moved
+pub use Rattle.index_model.proofs.OnceAnswers
+pub use Rattle.index_model.proofs.Outcomes
+pub use Rattle.entry_lookup.proofs.RunFilters
 pub use Rattle.index_parts.proofs.Taking
-pub use Rattle.index_split.proofs.Links
+pub use Rattle.ext_split.proofs.Links

@@ -3,15 +3,15 @@ use Rattle.std.proofs.Common.{◌≡◌, ℕ, List, [], ◌++◌, Bool, true, Op
 use Rattle.std.proofs.Common.{subst, ◌∙◌}
 use Rattle.std.specs.Prelude.{◌⊎◌, IfSome, codes}
 use Rattle.std.specs.Io.KnownBytes.{Appends}
-use Rattle.index_folder.specs.Locks.{IsCommitted}
-use Rattle.index_folder.specs.Times.{is_told}
-use Rattle.index_folder.specs.World.{Absent, Holds, Makes, Moves, World}
-use Rattle.index_folder.specs.declared.lock.Place.{Place}
-use Rattle.index_format.specs.Contents.{Contents}
-use Rattle.index_format.specs.Image.{image}
-use Rattle.index_format.specs.declared.write.Options.{Options}
-use Rattle.index_metadata.specs.declared.entry.stat.FileTime.{FileTime}
-use Rattle.index_folder.proofs.Moved.{not_itself, stays_then}
+use Rattle.file_place.specs.Locks.{IsCommitted}
+use Rattle.file_place.specs.Times.{is_known_time}
+use Rattle.file_place.specs.World.{Absent, Holds, Makes, Moves, World}
+use Rattle.file_place.specs.declared.lock.Place.{Place}
+use Rattle.index_model.specs.Contents.{Contents}
+use Rattle.index_model.specs.Image.{image}
+use Rattle.index_model.specs.declared.write.Options.{Options}
+use Rattle.entry_fields.specs.declared.entry.stat.FileTime.{FileTime}
+use Rattle.file_place.proofs.Moved.{not_itself, stays_then}
 use Rattle.gix_index.specs.InPlace.{IsPut, IsPutSince}
 
 -- what was written to no bytes is all of them
@@ -34,7 +34,7 @@ put_since old new place v options empty filled time since e a h = record {
     unlocked = h.unlocked;
     others = h.others;
   };
-  is_time = λ told. h.is_time (subst (λ t. is_told t ≡ true) (sym since) told) ∙ since;
+  is_time = λ told. h.is_time (subst (λ t. is_known_time t ≡ true) (sym since) told) ∙ since;
 }
 
 pub put_over : (guards : Bool) (old mid new : World) (path lock made from to : List ℕ) (v : Contents)

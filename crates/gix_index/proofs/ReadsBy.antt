@@ -3,18 +3,18 @@ use Rattle.std.proofs.Common.{◌≡◌, ◌++◌, ℕ, Bool, true, false, List,
 use Rattle.std.specs.Prelude.{◌⊎◌, codes, pos, Result, Ok, Err, IfErr, IfOk, IsTrue}
 use Rattle.index_parts.specs.declared.hash.Kind.{Kind}
 use Rattle.index_parts.specs.declared.hash.ObjectId.{ObjectId}
-use Rattle.index_metadata.specs.declared.entry.stat.FileTime.{FileTime}
-use Rattle.index_folder.specs.Locks.{LeadsTo}
-use Rattle.index_folder.specs.World.{Known, Makes, MayBe, MayBeMissing, Stored, World}
-use Rattle.index_format.specs.declared.decode.Options.{Options}
+use Rattle.entry_fields.specs.declared.entry.stat.FileTime.{FileTime}
+use Rattle.file_place.specs.Locks.{LeadsTo}
+use Rattle.file_place.specs.World.{Known, Makes, MayBe, MayBeMissing, Stored, World}
+use Rattle.index_model.specs.declared.decode.Options.{Options}
 use Rattle.index_state.specs.State.{contents}
 use Rattle.gix_index.specs.Disk.{IsTimeFor, disk_at, disk_beside, known_of}
 use Rattle.gix_index.specs.File.{IsEmptyFile, checksum_of, state_of}
-use Rattle.gix_index.specs.FileFaults.{FailsUnderLock, SaysOfFile, SaysOfFiles}
+use Rattle.gix_index.specs.FileFaults.{FailsUnderLock, FileReadCause, FilesReadCause}
 use Rattle.gix_index.specs.Linked.{IsOnDisk, IsOnDiskSince}
 use Rattle.gix_index.specs.declared.file.File.{File}
-use Rattle.index_file_faults.specs.declared.init.Error.{Error}
-use Rattle.index_file_faults.specs.declared.init.Error.TheVariants as errors
+use Rattle.file_errors.specs.declared.init.Error.{Error}
+use Rattle.file_errors.specs.declared.init.Error.TheVariants as errors
 use Rattle.gix_index.proofs.FileFaults.{disk_there, fault_there, faults_there, of_own, opened_so}
 use Rattle.gix_index.proofs.Times.{since}
 
@@ -50,9 +50,9 @@ module _ (skip : Bool) (kind : Kind) (options : Options) where
   pub fault_at : (works wanted : Bool) (given time : FileTime) (path : List ℕ) (k : Known) (stored : Option Stored)
       (shared : ObjectId → Known) (r : Result File Error) → MayBe k (λ there. stored ≡ Some there)
       → IsTimeFor wanted given (known_of stored) time
-      → IfErr r (SaysOfFiles path works (record { own = known_of stored; shared = shared }) skip kind time options)
+      → IfErr r (FilesReadCause path works (record { own = known_of stored; shared = shared }) skip kind time options)
       → IfErr r (λ e. (t : FileTime) × (wanted ≡ false → t ≡ given)
-      × SaysOfFiles path works (record { own = k; shared = shared }) skip kind t options e)
+      × FilesReadCause path works (record { own = k; shared = shared }) skip kind t options e)
   fault_at works wanted given time path k stored shared (Ok f) o t h = tt
   fault_at works wanted given time path k stored shared (Err e) o t h = (
     time,
@@ -63,9 +63,9 @@ module _ (skip : Bool) (kind : Kind) (options : Options) where
   pub own_fault_at : (works opened wanted : Bool) (given time : FileTime) (path : List ℕ) (k : Known)
       (stored : Option Stored) (shared : ObjectId → Known) (e : Error) → (works ≡ true → opened ≡ true)
       → MayBe k (λ there. stored ≡ Some there) → IsTimeFor wanted given (known_of stored) time
-      → SaysOfFile path opened (known_of stored) skip kind time options e
+      → FileReadCause path opened (known_of stored) skip kind time options e
       → (t : FileTime) × (wanted ≡ false → t ≡ given)
-      × SaysOfFiles path works (record { own = k; shared = shared }) skip kind t options e
+      × FilesReadCause path works (record { own = k; shared = shared }) skip kind t options e
   own_fault_at works opened wanted given time path k stored shared e so o t h = (
     time,
     given_by wanted given time (known_of stored) t,
@@ -87,35 +87,51 @@ module _ (skip : Bool) (kind : Kind) (options : Options) where
   only_since given world at path (Ok f) same (inr h) = let no = h.0 in absurd cc
   only_since given world at path (Err e) same h = h
 
+  pub since_or_empty : (given : FileTime) (world : World) (at path : List ℕ) (r : Result File Error)
+      → at ≡ path
+      → IfOk r (λ f. ((t : FileTime) × IsTimeFor true given (world at) t
+      × IsOnDisk (disk_beside (world at) world path) skip kind t options (contents (state_of f)) (checksum_of f))
+      ⊎ (IsTrue true × MayBeMissing (world at) × IsEmptyFile kind given f))
+      → IfOk r (λ f. IsOnDiskSince (disk_at world path) skip kind options (contents (state_of f)) (checksum_of f)
+      ⊎ (MayBeMissing (world path) × IsEmptyFile kind given f))
+  since_or_empty given world at path (Ok f) same (inl h) = inl (
+      subst (λ (x : List ℕ). IsOnDiskSince (disk_beside (world x) world path) skip kind options (contents (state_of f))
+      (checksum_of f)) same (since skip kind options (disk_beside (world at) world path) h.0 (contents (state_of f))
+      (checksum_of f) h.1 h.2))
+  since_or_empty given world at path (Ok f) same (inr h) =
+      inr (subst (λ (x : List ℕ). MayBeMissing (world x)) same h.1, h.2)
+  since_or_empty given world at path (Err e) same h = h
+
   pub some_fault : (works : Bool) (W : FileTime → Type 0) (world : World) (at path : List ℕ) (r : Result File Error) → at ≡ path
       → IfErr r (λ e. (t : FileTime) × W t
-      × SaysOfFiles path works (disk_beside (world at) world path) skip kind t options e)
-      → IfErr r (λ e. (t : FileTime) × SaysOfFiles path works (disk_at world path) skip kind t options e)
+      × FilesReadCause path works (disk_beside (world at) world path) skip kind t options e)
+      → IfErr r (λ e. (t : FileTime) × FilesReadCause path works (disk_at world path) skip kind t options e)
   some_fault works W world at path (Ok f) same h = tt
   some_fault works W world at path (Err e) same h = (
     h.0,
-    subst (λ (x : List ℕ). SaysOfFiles path works (disk_beside (world x) world path) skip kind h.0 options e) same h.2,
+    subst (λ (x : List ℕ). FilesReadCause path works (disk_beside (world x) world path) skip kind h.0 options e) same
+        h.2,
   )
 
   -- under a lock
   pub locked_read : (Changed : FileTime → Type 0) (given : FileTime) (world : World) (at target path : List ℕ) (f : File)
-      (default : Bool) → Changed given → at ≡ target
+      (default wanted : Bool) → default ≡ wanted → Changed given → at ≡ target
       → ((t : FileTime) × IsTimeFor true given (world at) t
       × IsOnDisk (disk_beside (world at) world path) skip kind t options (contents (state_of f)) (checksum_of f))
       ⊎ (IsTrue default × MayBeMissing (world at) × IsEmptyFile kind given f)
       → IsOnDiskSince (disk_beside (world target) world path) skip kind options (contents (state_of f)) (checksum_of f)
-      ⊎ (IsTrue default × MayBeMissing (world target) × ((t : FileTime) × Changed t × IsEmptyFile kind t f))
-  locked_read Changed given world at target path f default told same (inl h) = inl (
+      ⊎ (IsTrue wanted × MayBeMissing (world target) × ((t : FileTime) × Changed t × IsEmptyFile kind t f))
+  locked_read Changed given world at target path f default wanted is told same (inl h) = inl (
       subst (λ (x : List ℕ). IsOnDiskSince (disk_beside (world x) world path) skip kind options (contents (state_of f))
       (checksum_of f)) same (since skip kind options (disk_beside (world at) world path) h.0 (contents (state_of f))
       (checksum_of f) h.1 h.2))
-  locked_read Changed given world at target path f default told same (inr h) =
-      inr (h.0, subst (λ (x : List ℕ). MayBeMissing (world x)) same h.1, (given, told, h.2))
+  locked_read Changed given world at target path f default wanted is told same (inr h) =
+      inr (subst IsTrue is h.0, subst (λ (x : List ℕ). MayBeMissing (world x)) same h.1, (given, told, h.2))
 
   pub locked_fault : (works then : Bool) (guards : Bool) (W : FileTime → Type 0) (old behind : World)
       (path target at lock : List ℕ) (e : Error) → then ≡ works → at ≡ target → LeadsTo old 5 path target
       → lock ≡ target ++ codes ".lock" → Makes guards old behind lock
-      → (t : FileTime) × W t × SaysOfFiles path then (disk_beside (behind at) behind path) skip kind t options e
+      → (t : FileTime) × W t × FilesReadCause path then (disk_beside (behind at) behind path) skip kind t options e
       → FailsUnderLock path works guards old skip kind options e
   locked_fault works then guards W old behind path target at lock e still same leads beside made h = record {
     target = target;
@@ -123,8 +139,8 @@ module _ (skip : Bool) (kind : Kind) (options : Options) where
     leads = leads;
     made = subst (Makes guards old behind) beside made;
     time = h.0;
-    says = subst (λ (x : List ℕ). SaysOfFiles path works (disk_beside (behind x) behind path) skip kind h.0 options e) same
-        (subst (λ (b : Bool). SaysOfFiles path b (disk_beside (behind at) behind path) skip kind h.0 options e) still h.2);
+    says = subst (λ (x : List ℕ). FilesReadCause path works (disk_beside (behind x) behind path) skip kind h.0 options e) same
+        (subst (λ (b : Bool). FilesReadCause path b (disk_beside (behind at) behind path) skip kind h.0 options e) still h.2);
   }
 
 -- the begin of 1970

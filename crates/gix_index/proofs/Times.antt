@@ -2,16 +2,16 @@
 use Rattle.std.proofs.Common.{◌≡◌, ℕ, Bool, List, Option, Some, None, Ok, sym, ap, subst, ◌∙◌}
 use Rattle.index_parts.specs.declared.hash.Kind.{Kind}
 use Rattle.index_parts.specs.declared.hash.ObjectId.{ObjectId}
-use Rattle.index_metadata.specs.declared.entry.stat.FileTime.{FileTime}
-use Rattle.index_format.specs.declared.decode.Options.{Options}
-use Rattle.index_split.specs.Link.{BitmapPair}
+use Rattle.entry_fields.specs.declared.entry.stat.FileTime.{FileTime}
+use Rattle.index_model.specs.declared.decode.Options.{Options}
+use Rattle.ext_split.specs.Link.{BitmapPair}
 use Rattle.index_state.specs.Dissolve.{MergesBy}
 use Rattle.index_state.specs.Edits.{without_link}
-use Rattle.index_format.specs.Contents.{Contents}
-use Rattle.index_format.proofs.ReadValues.{value_is}
+use Rattle.index_model.specs.Contents.{Contents}
+use Rattle.index_model.proofs.ReadValues.{value_is}
 use Rattle.gix_index.proofs.Joined.{answer_read}
 use Rattle.gix_index.specs.Checked.{IsFileAnswer}
-use Rattle.index_folder.specs.World.{MayBe}
+use Rattle.file_place.specs.World.{MayBe}
 use Rattle.gix_index.specs.Disk.{Disk}
 use Rattle.gix_index.specs.Linked.{IsOnDisk, IsOnDiskSince, own, joined}
 

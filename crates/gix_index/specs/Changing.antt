@@ -1,20 +1,21 @@
--- What is said of changes of an index, and of what speaks of its entries (git-update-index, "--index-info").
-pub use Rattle.index_updates.specs.Updates
-pub use Rattle.index_edits.specs.Changes
-pub use Rattle.index_edits.specs.Edits as Staging
-pub use Rattle.index_edits.specs.Refusals
-pub use Rattle.index_edits.specs.Wholes
-pub use Rattle.index_invalidation.specs.Invalidation
-pub use Rattle.index_monitor.specs.Dirty
-pub use Rattle.index_updates.specs.Invalidated
-pub use Rattle.index_updates.specs.PartsUpdates
-pub use Rattle.index_updates.specs.Recorded
-pub use Rattle.index_updates.specs.StillStorable
-pub use Rattle.index_updates.specs.Undone
-pub use Rattle.index_untracked.specs.UntrackedEdits
+-- Definitions about changes of an index, and about the extensions that describe its entries (git-update-index,
+-- "--index-info").
+pub use Rattle.index_edit.specs.Updates
+pub use Rattle.entry_edit.specs.Changes
+pub use Rattle.entry_edit.specs.Edits as Staging
+pub use Rattle.entry_edit.specs.Refusals
+pub use Rattle.entry_edit.specs.Wholes
+pub use Rattle.ext_invalidate.specs.Invalidation
+pub use Rattle.index_fsmonitor.specs.Dirty
+pub use Rattle.index_edit.specs.Invalidated
+pub use Rattle.index_edit.specs.PartsUpdates
+pub use Rattle.index_edit.specs.Recorded
+pub use Rattle.index_edit.specs.StillStorable
+pub use Rattle.index_edit.specs.Undone
+pub use Rattle.ext_untracked.specs.UntrackedEdits
 pub use Rattle.index_state.specs.StateChanges
 pub use Rattle.index_state.specs.StateEdits
-pub use Rattle.index_edits.specs.declared.change.Change
-pub use Rattle.index_edits.specs.declared.change.ApplyError
-pub use Rattle.index_edits.specs.declared.error.Error
-pub use Rattle.index_edits.specs.declared.stage.Displaced
+pub use Rattle.entry_edit.specs.declared.change.Change
+pub use Rattle.entry_edit.specs.declared.change.ApplyError
+pub use Rattle.entry_edit.specs.declared.error.Error
+pub use Rattle.entry_edit.specs.declared.stage.Displaced

@@ -1,15 +1,15 @@
--- A file as a value (the library's own): the index, the path's text, and the id at its end.
+-- A file as a value (the library's own): the index, the bytes of the path, and the id at the end of the file.
 use Rattle.std.specs.Prelude.{◌≡◌, ℕ, List, Option, None}
 use Rattle.std.specs.Borrow.{Lends, MutBor, Fml}
 use Rattle.std.specs.Path.{path_buf_bytes}
 use Rattle.index_parts.specs.declared.hash.ObjectId.{ObjectId}
 use Rattle.index_state.specs.declared.State.{State}
 use Rattle.index_state.specs.contracts.State as state
-use Rattle.index_metadata.specs.declared.entry.stat.FileTime.{FileTime}
+use Rattle.entry_fields.specs.declared.entry.stat.FileTime.{FileTime}
 use Rattle.index_parts.specs.declared.hash.Kind.{Kind}
 use Rattle.index_state.specs.Edits.{IsUnchanged, empty_contents}
-use Rattle.index_entries.specs.Record.{IdsAreOf}
-use Rattle.index_format.specs.Storable.{IsStorable}
+use Rattle.entry_list.specs.Record.{IdsAreOf}
+use Rattle.index_model.specs.Storable.{IsStorable}
 use Rattle.index_state.specs.State.{PathsInStorage, contents, entries_of}
 use Rattle.gix_index.specs.declared.file.File.{File}
 use Rattle.gix_index.specs.contracts.file.File as file
@@ -29,14 +29,15 @@ pub record IsSameFile (old new : File) : Type 0 where
   pub same_path : path_of new ≡ path_of old
   pub same_checksum : checksum_of new ≡ checksum_of old
 
--- the file has this path, and a state such as reading for ids of this kind gives it
+-- The file has this path. Its state has the properties of every state that is read for ids of this hash algorithm.
 pub record IsFileOf (at : List ℕ) (kind : Kind) (f : File) : Type 0 where
   pub path : path_of f ≡ at
   pub placed : PathsInStorage (state_of f)
   pub ids : IdsAreOf kind (entries_of (state_of f))
   pub storable : IsStorable (contents (state_of f))
 
--- the same, and it links to no shared index
+-- The file has this path and links to no shared index. Its state has the properties of every state that is read for ids
+-- of this hash algorithm.
 pub record IsWholeFile (at : List ℕ) (kind : Kind) (f : File) : Type 0 where
   pub path : path_of f ≡ at
   pub placed : PathsInStorage (state_of f)
@@ -44,10 +45,10 @@ pub record IsWholeFile (at : List ℕ) (kind : Kind) (f : File) : Type 0 where
   pub storable : IsStorable (contents (state_of f))
   pub unlinked : (contents (state_of f)).extensions.link ≡ None
 
--- an empty index of this kind with this time, which no file holds
+-- an empty index for this hash algorithm with this time, which is in no file
 abbrev pub IsEmptyFile : Kind → FileTime → File → Type 0
 IsEmptyFile kind time f = (contents (state_of f) ≡ empty_contents kind time) × (checksum_of f ≡ None)
 
--- the file ends with the last state behind the loan; all else stays
+-- the file ends with the last state of the borrow, and everything else is unchanged
 abbrev pub LendsState : MutBor File → MutBor State → Fml
 LendsState f r = Lends file.the_row state.the_row f r (λ s. record f.now { state = s })

@@ -1,4 +1,5 @@
--- What clauses cite on digests, and on writers that take them or that only pass bytes on (the library's own names).
+-- Definitions for clauses about digests, about writers that compute them, and about writers that only pass bytes on
+-- (the library's own names).
 pub use Rattle.index_parts.specs.Digest
 pub use Rattle.index_parts.specs.declared.hash.Hasher
 pub use Rattle.index_parts.specs.declared.hash.io.Out

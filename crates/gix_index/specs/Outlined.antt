@@ -1,13 +1,13 @@
--- An index in bytes whose entries are counted and not kept (gitformat-index, as a whole; the library's own).
+-- An index in bytes whose entries are counted and not stored (gitformat-index; the library's own).
 use Rattle.std.specs.Prelude.{ℕ, Bool, List, Ok}
 use Rattle.index_parts.specs.declared.hash.Kind.{Kind}
-use Rattle.index_metadata.specs.declared.entry.stat.FileTime.{FileTime}
-use Rattle.index_format.specs.Contents.{Contents}
-use Rattle.index_format.specs.Storable.{IsStorable}
-use Rattle.index_format.specs.declared.decode.Options.{Options}
-pub use Rattle.index_outline.specs.Outlines.{Outlines}
+use Rattle.entry_fields.specs.declared.entry.stat.FileTime.{FileTime}
+use Rattle.index_model.specs.Contents.{Contents}
+use Rattle.index_model.specs.Storable.{IsStorable}
+use Rattle.index_model.specs.declared.decode.Options.{Options}
+pub use Rattle.index_outline.specs.Outlines.{Outlines, outlined_value}
 pub use Rattle.index_outline.specs.declared.Outline
-pub use Rattle.index_window.specs.Passed
+pub use Rattle.file_windows.specs.Passed
 use Rattle.gix_index.specs.Checked.{IsFileAnswer}
 use Rattle.index_outline.specs.declared.Outline.{Outline}
 

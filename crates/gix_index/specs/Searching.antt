@@ -1,12 +1,12 @@
--- What clauses cite on tables of names and directories, which are made once for many lookups, and on lookups that go by
--- them or filter entries (the library's own names).
-pub use Rattle.index_search.specs.Digits
-pub use Rattle.index_lookups.specs.FilterMap
-pub use Rattle.index_lookups.specs.Folded
-pub use Rattle.index_lookups.specs.Searches
-pub use Rattle.index_lookups.specs.Tables
+-- Definitions for clauses about tables of names and directories, which are built once for many lookups. Also for
+-- clauses about lookups that use these tables or that filter entries (the library's own names).
+pub use Rattle.base_search.specs.Digits
+pub use Rattle.entry_lookup.specs.FilterMap
+pub use Rattle.entry_lookup.specs.Folded
+pub use Rattle.entry_lookup.specs.Searches
+pub use Rattle.entry_lookup.specs.Tables
 pub use Rattle.index_state.specs.StateSearches
-pub use Rattle.index_lookups.specs.declared.folded.AccelerateLookup
-pub use Rattle.index_lookups.specs.declared.paths.FilterMapPaths
-pub use Rattle.index_lookups.specs.declared.tables.DirectoryTable
-pub use Rattle.index_lookups.specs.declared.tables.PathSearch
+pub use Rattle.entry_lookup.specs.declared.folded.AccelerateLookup
+pub use Rattle.entry_lookup.specs.declared.paths.FilterMapPaths
+pub use Rattle.entry_lookup.specs.declared.tables.DirectoryTable
+pub use Rattle.entry_lookup.specs.declared.tables.PathSearch

@@ -1,49 +1,48 @@
--- What comparing a file's bytes with a checksum finds (gitformat-index, "Hash checksum").
-use Rattle.std.specs.Prelude.{◌≡◌, ◌≢◌, ◌↔◌, Bool, ℕ, ◌<◌, ◌≤◌, List, length, Some, Err, Result, IfErr, OnOk}
+-- The result of comparing a file's bytes with a checksum (gitformat-index, "Hash checksum").
+use Rattle.std.specs.Prelude.{◌≡◌, ◌≢◌, Bool, ℕ, ◌<◌, ◌≤◌, List, length, Some}
 use Rattle.index_parts.specs.Id.{id_kind, id_len}
 use Rattle.index_parts.specs.declared.hash.ObjectId.{ObjectId}
-use Rattle.index_window.specs.Intact.{digest_id}
-use Rattle.index_folder.specs.World.{Known, World}
+use Rattle.file_windows.specs.Intact.{digest_id}
+use Rattle.file_place.specs.World.{Known, World}
 use Rattle.gix_index.specs.Disk.{MayHave}
 use Rattle.gix_index.specs.File.{checksum_of, path_of}
 use Rattle.gix_index.specs.FileFaults.{IsOfFile}
 use Rattle.gix_index.specs.declared.file.File.{File}
-use Rattle.index_file_faults.specs.declared.verify.Error.{Error}
-use Rattle.index_file_faults.specs.declared.verify.Error.TheVariants as errors
+use Rattle.file_errors.specs.declared.verify.Error.{Error}
+use Rattle.file_errors.specs.declared.verify.Error.TheVariants as errors
 
--- there are fewer bytes than the checksum has; or there are enough, and the digest of all but that many is another
-abbrev pub SaysOfBytes : List ℕ → ObjectId → Error → Type 0
-SaysOfBytes bytes checksum errors.TooShort = length bytes < id_len (id_kind checksum)
-SaysOfBytes bytes checksum (errors.Verify e) =
+-- There are fewer bytes than the checksum has. Or there are enough, and the digest of the bytes before the last ones is
+-- another. The last ones are as many as the checksum has.
+abbrev pub ChecksumCause : List ℕ → ObjectId → Error → Type 0
+ChecksumCause bytes checksum errors.TooShort = length bytes < id_len (id_kind checksum)
+ChecksumCause bytes checksum (errors.Verify e) =
     (id_len (id_kind checksum) ≤ length bytes) × (digest_id (id_kind checksum) bytes ≢ checksum)
     × (e.actual ≡ digest_id (id_kind checksum) bytes) × (e.expected ≡ checksum)
-SaysOfBytes bytes checksum (errors.Io e) = ⊥
-SaysOfBytes bytes checksum errors.Memory = ⊥
+ChecksumCause bytes checksum (errors.Io e) = ⊥
+ChecksumCause bytes checksum errors.Memory = ⊥
 
--- the digest of bytes, all but the last, is compared with the checksum
-pub record Compares (bytes : List ℕ) (checksum : ObjectId) (r : Result (Unit {0}) Error) : Type 0 where
-  pub too_short : (r ≡ Err errors.TooShort) ↔ (length bytes < id_len (id_kind checksum))
-  pub ok : OnOk r ((id_len (id_kind checksum) ≤ length bytes) × (digest_id (id_kind checksum) bytes ≡ checksum))
-  pub fault : IfErr r (SaysOfBytes bytes checksum)
+-- there are at least as many bytes as the checksum has, and it is the digest of the bytes before that many last ones
+abbrev pub HasDigest : List ℕ → ObjectId → Type 0
+HasDigest bytes checksum =
+    (id_len (id_kind checksum) ≤ length bytes) × (digest_id (id_kind checksum) bytes ≡ checksum)
 
--- The checksum fits: the file's bytes have it as the digest of all but the last, of which it has as many.
+-- The checksum matches the file. It is the digest of the file's bytes before the last ones, which are as many as the
+-- checksum has.
 abbrev pub FitsFile : Known → ObjectId → Type 0
-FitsFile known checksum =
-    (bytes : List ℕ) × MayHave known bytes × (id_len (id_kind checksum) ≤ length bytes)
-    × (digest_id (id_kind checksum) bytes ≡ checksum)
+FitsFile known checksum = (bytes : List ℕ) × MayHave known bytes × HasDigest bytes checksum
 
--- A fault of the file's bytes; where none were read, one of the disk that names the path, or want of memory, which says
--- nothing.
-abbrev pub SaysOfFileBytes : List ℕ → Bool → Known → ObjectId → Error → Type 0
-SaysOfFileBytes path works known checksum errors.TooShort =
-    (bytes : List ℕ) × MayHave known bytes × SaysOfBytes bytes checksum errors.TooShort
-SaysOfFileBytes path works known checksum (errors.Verify e) =
-    (bytes : List ℕ) × MayHave known bytes × SaysOfBytes bytes checksum (errors.Verify e)
-SaysOfFileBytes path works known checksum (errors.Io fault) = IsOfFile path works known fault
-SaysOfFileBytes path works known checksum errors.Memory = Unit {0}
+-- An error that follows from the file's bytes. If none were read, it is a disk error that names the path, or an
+-- allocation failure, which implies nothing.
+abbrev pub FileChecksumCause : List ℕ → Bool → Known → ObjectId → Error → Type 0
+FileChecksumCause path works known checksum errors.TooShort =
+    (bytes : List ℕ) × MayHave known bytes × ChecksumCause bytes checksum errors.TooShort
+FileChecksumCause path works known checksum (errors.Verify e) =
+    (bytes : List ℕ) × MayHave known bytes × ChecksumCause bytes checksum (errors.Verify e)
+FileChecksumCause path works known checksum (errors.Io fault) = IsOfFile path works known fault
+FileChecksumCause path works known checksum errors.Memory = Unit {0}
 
--- the same of the file at an index's path, where that has a checksum
-abbrev pub SaysOfVerifying : File → Bool → World → Error → Type 0
-SaysOfVerifying f works world e =
+-- why the checksum of an index doesn't match the file at its path, if the index has a checksum
+abbrev pub VerifyCause : File → Bool → World → Error → Type 0
+VerifyCause f works world e =
     (checksum : ObjectId) × (checksum_of f ≡ Some checksum)
-    × SaysOfFileBytes (path_of f) works (world (path_of f)) checksum e
+    × FileChecksumCause (path_of f) works (world (path_of f)) checksum e

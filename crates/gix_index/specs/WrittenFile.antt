@@ -1,5 +1,5 @@
--- What becomes of a writer (`std::io::Write`), and of the answer, where an index is written with its digest
--- (gitformat-index, "Hash checksum").
+-- The result and the writer (`std::io::Write`) after an index was written with its digest (gitformat-index, "Hash
+-- checksum").
 use Rattle.std.specs.Prelude.{◌≡◌, ◌↔◌, ◌++◌, ℕ, Bool, true, List, [], Option, Some, None, Result, Err, IfErr, IfOk}
 use Rattle.std.specs.Prelude.{OnErr, OnOk, codes}
 use Rattle.std.specs.Io.KnownBytes.{Appends}
@@ -10,33 +10,33 @@ use Rattle.std.specs.Prelude.{if◌then◌else◌}
 use Rattle.index_parts.specs.Taking.{Hashes}
 use Rattle.index_parts.specs.declared.hash.Kind.{Kind}
 use Rattle.index_parts.specs.declared.hash.io.Out.{Ghosts as OutGhosts}
-use Rattle.index_folder.specs.Locks.{IsReleased, asked_of, lock_of, target_of}
-use Rattle.index_folder.specs.World.{World}
-use Rattle.index_folder.specs.declared.folder.Folder.{Ghosts}
-use Rattle.index_folder.specs.declared.lock.Lock.{Lock}
-use Rattle.index_folder.specs.declared.lock.Place.{Place}
-use Rattle.index_file_faults.specs.WriteFaults.{SaysOfCommitting, SaysOfWrite}
-use Rattle.index_file_faults.specs.declared.write.Error.{Error as WriteFault}
-use Rattle.index_format.specs.Storable.{IsWritable}
+use Rattle.file_place.specs.Locks.{IsReleased, asked_of, lock_of, target_of}
+use Rattle.file_place.specs.World.{World}
+use Rattle.file_place.specs.declared.folder.Folder.{Ghosts}
+use Rattle.file_place.specs.declared.lock.Lock.{Lock}
+use Rattle.file_place.specs.declared.lock.Place.{Place}
+use Rattle.file_errors.specs.WriteFaults.{CommitIndexCause, WriteCause}
+use Rattle.file_errors.specs.declared.write.Error.{Error as WriteFault}
+use Rattle.index_model.specs.Storable.{IsWritable}
 use Rattle.gix_index.specs.InPlace.{IsPut, IsPutSince, LeavesLock}
 use Rattle.index_parts.specs.Id.{make_id}
 use Rattle.index_parts.specs.declared.hash.ObjectId.{ObjectId}
-use Rattle.index_entries.specs.declared.Version.{Version}
-use Rattle.index_format.specs.declared.write.Error.{Error}
-use Rattle.index_format.specs.declared.write.Error.TheVariants.{TooManyEntries, NulInPath, TooLarge}
-use Rattle.index_format.specs.declared.write.Options.{Options}
-use Rattle.index_format.specs.Image.{body, image, image_version, trailer}
+use Rattle.entry_list.specs.declared.Version.{Version}
+use Rattle.index_model.specs.declared.write.Error.{Error}
+use Rattle.index_model.specs.declared.write.Error.TheVariants.{TooManyEntries, NulInPath, TooLarge}
+use Rattle.index_model.specs.declared.write.Options.{Options}
+use Rattle.index_model.specs.Image.{body, image, image_version, trailer}
 use Rattle.index_state.specs.Edits.{with_version}
-use Rattle.index_format.specs.Contents.{Contents}
+use Rattle.index_model.specs.Contents.{Contents}
 use Rattle.index_state.specs.State.{contents, entries_of, storage_of}
-use Rattle.index_format.specs.Writing.{RefusedWith, Writes}
+use Rattle.index_model.specs.Writing.{RefusedWith, Writes}
 use Rattle.gix_index.specs.declared.file.File.{File}
-use Rattle.gix_index.specs.declared.file.lock.Locked.{Locked}
 use Rattle.gix_index.specs.declared.file.write.Filled.{Filled}
 use Rattle.gix_index.specs.File.{state_of, path_of, checksum_of}
 
--- The answer to writing these bytes of a value: the version and the id that the trailer is; too many entries, then a
--- NUL in a path, then too many bytes, exactly where it is so; or the writer's fault.
+-- The result of writing these bytes of a value: the version and the id in the trailer, or an error. The errors are
+-- tested in this order: too many entries, a NUL in a path, too many bytes. Each occurs exactly if its condition holds.
+-- Any other error is the writer's.
 pub record WritesIndex {S : Type 0} (taken : S → Option (List ℕ)) (failed : S → Bool) (old new : S)
     (r : Result (Version × ObjectId) Error) (v : Contents) (options : Options) (whole : List ℕ) : Type 0 where
   pub version : IfOk r (λ x. x.0 ≡ image_version v options)
@@ -46,7 +46,8 @@ pub record WritesIndex {S : Type 0} (taken : S → Option (List ℕ)) (failed : 
   pub nul_in_path : (r ≡ Err NulInPath) ↔ RefusedWith v options NulInPath
   pub too_large : (r ≡ Err TooLarge) ↔ RefusedWith v options TooLarge
 
--- the same of all but the trailer, by a writer with loans that stay and hashers that take the bytes in
+-- The result of writing everything except the trailer of a value. The writer's borrows are unchanged, and its hashers
+-- take in the bytes.
 pub record PutsBody {S : Type 0} (taken : S → Option (List ℕ)) (failed : S → Bool)
     (takes_in : S → ℕ → Kind → List ℕ → Type 0) (loan_of : S → List ℕ) (old new : S) (r : Result (Version × ObjectId) Error)
     (v : Contents) (options : Options) : Type 0 where
@@ -55,7 +56,7 @@ pub record PutsBody {S : Type 0} (taken : S → Option (List ℕ)) (failed : S �
   pub loan : loan_of new ≡ loan_of old
   pub writable : OnOk r (IsWritable v options)
 
--- the same of all bytes of a file
+-- The result of writing all bytes of a file. The writer's borrows are unchanged, and its hashers take in the bytes.
 pub record PutsFile {S : Type 0} (taken : S → Option (List ℕ)) (failed : S → Bool)
     (takes_in : S → ℕ → Kind → List ℕ → Type 0) (loan_of : S → List ℕ) (old new : S) (r : Result (Version × ObjectId) Error)
     (f : File) (options : Options) : Type 0 where
@@ -64,30 +65,30 @@ pub record PutsFile {S : Type 0} (taken : S → Option (List ℕ)) (failed : S �
   pub loan : loan_of new ≡ loan_of old
   pub writable : OnOk r (IsWritable (contents (state_of f)) options)
 
--- the version, the id and all bytes that are written of a file
-abbrev pub version_of : File → Options → Version
-version_of f options = image_version (contents (state_of f)) options
+-- the version, the id and all bytes that are written for a file
+abbrev pub written_version : File → Options → Version
+written_version f options = image_version (contents (state_of f)) options
 
-abbrev pub id_of : File → Options → ObjectId
-id_of f options = make_id (contents (state_of f)).kind (trailer (contents (state_of f)) options)
+abbrev pub written_id : File → Options → ObjectId
+written_id f options = make_id (contents (state_of f)).kind (trailer (contents (state_of f)) options)
 
 abbrev pub image_of : File → Options → List ℕ
 image_of f options = image (contents (state_of f)) options
 
--- where nothing else writes there, the file stands at its path, and the lock beside it is gone
+-- if nothing else writes there, the file is at its path, and its lock is gone
 abbrev pub Stores : Bool → World → World → File → Options → Type 0
 Stores alone old new f options =
     alone ≡ true → IsPut old new (path_of f ++ codes ".lock") (path_of f) (contents (state_of f)) options
 
 -- why a file isn't written to its path, or by a lock that was made before
-abbrev pub SaysOfWritingFile : Bool → World → File → Options → WriteFault → Type 0
-SaysOfWritingFile works world f options e = SaysOfWrite works world (path_of f) (contents (state_of f)) options e
+abbrev pub FileWriteCause : Bool → World → File → Options → WriteFault → Type 0
+FileWriteCause works world f options e = WriteCause works world (path_of f) (contents (state_of f)) options e
 
-abbrev pub SaysOfCommittingFile : Bool → Place → File → Options → WriteFault → Type 0
-SaysOfCommittingFile works place f options e = SaysOfCommitting works place (contents (state_of f)) options e
+abbrev pub CommitFileCause : Bool → Place → File → Options → WriteFault → Type 0
+CommitFileCause works place f options e = CommitIndexCause works place (contents (state_of f)) options e
 
--- A file that was written to a path, which is its own then: version and checksum are those of what was written, the
--- checksum None where that is zeros. All else stays.
+-- A file that was written to a path, which becomes its path. Version and checksum are those that were written; the
+-- checksum is None if zeros were written. Everything else is unchanged.
 pub record IsWrittenTo (to : List ℕ) (old new : File) (options : Options) : Type 0 where
   pub value : contents (state_of new) ≡ with_version (contents (state_of old))
       (image_version (contents (state_of old)) options)
@@ -98,13 +99,15 @@ pub record IsWrittenTo (to : List ℕ) (old new : File) (options : Options) : Ty
       (if options.skip_hash then None
       else Some (make_id (contents (state_of old)).kind (trailer (contents (state_of old)) options)))
 
--- the same of its own path
+-- A file that was written to its own path. Version and checksum are those that were written; the checksum is None if
+-- zeros were written. Everything else is unchanged.
 abbrev pub IsWritten : File → File → Options → Type 0
 IsWritten old new options = IsWrittenTo (path_of old) old new options
 
--- ---- what the calls answer that write an index to the disk, over all that is known of the writer or of the place
+-- ---- the results of the calls that write an index to the disk, by everything that is known of the writer or of the
+-- folder
 
--- all but the trailer of a value goes to a writer
+-- the result of writing everything except the trailer of a value to a writer
 abbrev pub PutsBodyTo : {S : Type 0} → OutGhosts S → S → S → Result (Version × ObjectId) Error → Contents → Options
     → Type 0
 PutsBodyTo w old new r v options = PutsBody w.taken w.failed w.hashed w.loan old new r v options
@@ -115,74 +118,50 @@ HoldsImage bytes_of writer f options x = Appends (bytes_of writer) (bytes_of x.f
 
 -- ---- by a lock that is made to write the index to its path
 
--- where nothing else writes there, the file stands at its path
+-- if nothing else writes there, the file is at its path
 abbrev pub StoresIn : {D F M : Type 0} → Ghosts D F M → D → D → File → Options → Type 0
 StoresIn folder old new f options = Stores (folder.alone old) (folder.known old) (folder.known new) f options
 
--- where nothing else writes there, all stays, but the lock may be there where the place doesn't work
+-- If nothing else writes there, everything is unchanged. If the folder doesn't work, the lock may exist.
 abbrev pub LeavesLockOf : {D F M : Type 0} → Ghosts D F M → D → D → File → Type 0
 LeavesLockOf folder old new f =
     folder.alone old ≡ true
     → LeavesLock (folder.works old) (folder.known old) (folder.known new) (path_of f ++ codes ".lock")
 
 -- why the file isn't written to its path
-abbrev pub SaysOfWritingIn : {D F M : Type 0} → Ghosts D F M → D → File → Options → WriteFault → Type 0
-SaysOfWritingIn folder old f options e = SaysOfWritingFile (folder.works old) (folder.known old) f options e
+abbrev pub FolderWriteCause : {D F M : Type 0} → Ghosts D F M → D → File → Options → WriteFault → Type 0
+FolderWriteCause folder old f options e = FileWriteCause (folder.works old) (folder.known old) f options e
 
 -- ---- by a lock that was made before
 
--- where nothing else writes there and the lock had no bytes, the index stands in the place of the file that was locked
+-- if nothing else writes there and the lock was empty, the index replaces the file that was locked
 abbrev pub StoresByLock : {D F M : Type 0} → Ghosts D F M → (M → Option (List ℕ)) → D → D → Lock M → File → Options
     → Type 0
 StoresByLock folder bytes_of old new lock f options =
     folder.alone old ≡ true → bytes_of lock.file ≡ Some []
     → IsPutSince (folder.known old) (folder.known new) lock.place (contents (state_of f)) options
 
--- all bytes were on the disk before they took the place of the file that was locked
+-- all bytes were on the disk before they replaced the file that was locked
 abbrev pub SyncsLock : {D F M : Type 0} → Ghosts D F M → D → Lock M → Type 0
 SyncsLock folder new lock = folder.durable new (target_of lock.place)
 
--- where nothing else writes there, the lock was given up
+-- if nothing else writes there, the lock was released
 abbrev pub ReleasesLock : {D F M : Type 0} → Ghosts D F M → D → D → Lock M → Type 0
 ReleasesLock folder old new lock =
     folder.alone old ≡ true → IsReleased (folder.works old) (folder.known old) (folder.known new) (lock_of lock.place)
 
--- An index was written to a lock that took the place of its file, once synced where that is wanted, or was given up: the
--- path that was asked for, and the version and the id that were written.
+-- An index was written to a lock file that replaced the locked file, after a sync if that was requested; or the lock
+-- was released. The result is the path that was given to the lock, and the version and the id that were written.
 pub record Saves {D F M : Type 0} (folder : Ghosts D F M) (bytes_of : M → Option (List ℕ)) (old new : D) (f : File)
     (lock : Lock M) (options : Options) (is_synced : Bool)
     (r : Result (PathBuf Global × Version × ObjectId) WriteFault) : Type 0 where
   pub path : IfOk r (λ x. path_buf_bytes x.0 ≡ asked_of lock.place)
-  pub version : IfOk r (λ x. x.1 ≡ version_of f options)
-  pub id : IfOk r (λ x. x.2 ≡ id_of f options)
+  pub version : IfOk r (λ x. x.1 ≡ written_version f options)
+  pub id : IfOk r (λ x. x.2 ≡ written_id f options)
   pub writable : OnOk r (IsWritable (contents (state_of f)) options)
   pub put : OnOk r (StoresByLock folder bytes_of old new lock f options)
   pub synced : OnOk r (is_synced ≡ true → SyncsLock folder new lock)
   pub released : OnErr r (ReleasesLock folder old new lock)
-  pub fault : IfErr r (SaysOfCommittingFile (folder.works old) lock.place f options)
+  pub fault : IfErr r (CommitFileCause (folder.works old) lock.place f options)
   pub alone : folder.alone new ≡ folder.alone old
   pub works : folder.works new ≡ folder.works old
-
--- The same of an index that has this path, version and checksum then, or else is as it was.
-pub record SavesFile {D F M : Type 0} (folder : Ghosts D F M) (bytes_of : M → Option (List ℕ)) (old new : D)
-    (before after : File) (lock : Lock M) (options : Options) (is_synced : Bool) (r : Result (Unit {0}) WriteFault)
-    : Type 0 where
-  pub ok : OnOk r (IsWrittenTo (asked_of lock.place) before after options)
-  pub err : OnErr r (after ≡ before)
-  pub writable : OnOk r (IsWritable (contents (state_of before)) options)
-  pub put : OnOk r (StoresByLock folder bytes_of old new lock before options)
-  pub synced : OnOk r (is_synced ≡ true → SyncsLock folder new lock)
-  pub released : OnErr r (ReleasesLock folder old new lock)
-  pub fault : IfErr r (SaysOfCommittingFile (folder.works old) lock.place before options)
-  pub alone : folder.alone new ≡ folder.alone old
-  pub works : folder.works new ≡ folder.works old
-
--- The same of an index with its lock.
-pub record SavesLocked {D F M : Type 0} (folder : Ghosts D F M) (bytes_of : M → Option (List ℕ)) (old new : D)
-    (locked : Locked M) (options : Options) (is_synced : Bool) (r : Result File WriteFault) : Type 0 where
-  pub ok : IfOk r (λ f. IsWrittenTo (asked_of locked.lock.place) locked.file f options)
-  pub writable : OnOk r (IsWritable (contents (state_of locked.file)) options)
-  pub put : OnOk r (StoresByLock folder bytes_of old new locked.lock locked.file options)
-  pub synced : OnOk r (is_synced ≡ true → SyncsLock folder new locked.lock)
-  pub released : OnErr r (ReleasesLock folder old new locked.lock)
-  pub fault : IfErr r (SaysOfCommittingFile (folder.works old) locked.lock.place locked.file options)

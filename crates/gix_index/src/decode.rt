@@ -4,4 +4,4 @@ pub mod entries;
 pub mod entry;
 pub mod header;
 
-pub use index_format::decode::{Error, Options};
+pub use index_model::decode::{Error, Options};

@@ -1,4 +1,4 @@
-//! An index with the path of its file and the id at the file's end.
+//! An index with the path of its file and the checksum at the end of the file.
 
 mod at;
 mod image;
@@ -16,14 +16,14 @@ ghost use Rattle.std.specs.Path.{path_bytes, path_buf_bytes};
 ghost use Rattle.gix_index.specs.File.{state_of, path_of, checksum_of, IsSameFile, LendsState};
 
 pub use at::shared_path;
-use index_entries::{PathBacking, PathStorageRef};
-pub use index_folder::fault::{OneLine, PathError};
-pub use index_folder::folder;
-pub use index_folder::system::System;
-pub use index_folder::whole::bytes_at;
+use entry_list::{PathBacking, PathStorageRef};
+pub use file_place::fault::{OneLine, PathError};
+pub use file_place::folder;
+pub use file_place::system::System;
+pub use file_place::whole::bytes_at;
+pub use file_windows::ReadOptions;
 use index_parts::hash::ObjectId;
 use index_state::State;
-pub use index_window::ReadOptions;
 pub use outline::Outline;
 pub use split::take_followed_link;
 use std::alloc::AllocError;
@@ -32,7 +32,7 @@ use std::ops::{Deref, DerefMut};
 use std::path::{Path, PathBuf};
 pub use unfollowed::Unfollowed;
 
-/// An index that was read from a file or is to be written to one. It lends the [`State`] by `Deref`.
+/// An index that was read from a file or is to be written to one. Its [`State`] is borrowed by `Deref`.
 #[derive(Drop)]
 pub struct File {
     state: State,
@@ -40,8 +40,9 @@ pub struct File {
     checksum: Option<ObjectId>,
 }
 
-/// The clone has a clone of the state, the same path and the same checksum; nothing happens on the disk. An error is
-/// want of memory for the state or the path.
+/// Clones the state, the path and the checksum. Nothing is changed on the disk.
+///
+/// The error is an allocation failure, for the state or the path.
 impl Clone for File {
     ghost is_clone = { λ a b. IsSameFile a b };
 
@@ -54,7 +55,7 @@ impl Clone for File {
     }
 }
 
-/// A line with the path and the checksum, and the lines of the state.
+/// Writes a line with the path and the checksum, then the lines of the state.
 impl fmt::Debug for File {
     fn fmt<W: fmt::Write>(&self, f: &mut fmt::Formatter<W>) -> fmt::Result {
         let path = self.path.as_path();
@@ -67,7 +68,7 @@ impl fmt::Debug for File {
 }
 
 impl File {
-    /// An index that is to be written to the path. It has no checksum until then.
+    /// Returns an index that is to be written to `path`. It has no checksum until it is written.
     pub fn from_state(state: State, path: PathBuf) -> File
         ensures state { state_of result ≡ state }
         ensures path { path_of result ≡ path_buf_bytes path }
@@ -80,7 +81,7 @@ impl File {
         }
     }
 
-    /// The state and the path.
+    /// Returns the state and the path.
     pub fn into_parts(self) -> (State, PathBuf)
         ensures state { result.0 ≡ state_of self }
         ensures path { path_buf_bytes result.1 ≡ path_of self }
@@ -93,14 +94,15 @@ impl File {
         (state, path)
     }
 
-    /// Where the index was read from, or is to be written.
+    /// Returns the path of the index's file, which may not exist yet.
     pub fn path(&self) -> Path<'_>
         ensures { path_bytes result ≡ path_of self.now }
     {
         self.path.as_path()
     }
 
-    /// Sets the path that the index is to be written to. Nothing moves on the disk, and all else stays.
+    /// Sets the path to which the index is to be written. Nothing is moved on the disk. State and checksum are
+    /// unchanged.
     pub fn set_path(&mut self, path: PathBuf)
         ensures path { path_of self.new ≡ path_buf_bytes path }
         ensures state { state_of self.new ≡ state_of self.old }
@@ -109,8 +111,10 @@ impl File {
         self.path = path;
     }
 
-    /// The id that stood at the end of the file when it was last read or written: the digest of all bytes before
-    /// it (gitformat-index, "Hash checksum"). None where there was no file yet, or where the id was null.
+    /// Returns the checksum that was at the end of the file when it was last read or written. It is the digest of all
+    /// bytes before it (gitformat-index, "Hash checksum").
+    ///
+    /// `None` if there was no file yet, or if the checksum was null.
     pub fn checksum(&self) -> Option<ObjectId>
         ensures { result ≡ checksum_of self.now }
     {
@@ -128,7 +132,8 @@ impl Deref for File {
     }
 }
 
-/// What is written through the lent state is the file's state; path and checksum stay.
+/// Borrows the state mutably. What is written through the borrow becomes the file's state. Path and checksum are
+/// unchanged.
 impl DerefMut for File {
     ghost deref_mut_gives = { λ file state. state ≡ state_of file };
 
@@ -148,7 +153,7 @@ impl From<File> for State {
     }
 }
 
-/// The storage of the paths of the file's state.
+/// Borrows the storage of the paths of the file's state.
 impl PathBacking for File {
     ghost use Rattle.index_state.specs.State.{storage_of};
 

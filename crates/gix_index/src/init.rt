@@ -1,4 +1,4 @@
-//! New indexes.
+//! Creates new indexes.
 
 ghost use Rattle.std.specs.Prelude.{◌≡◌};
 ghost use Rattle.index_state.specs.Edits.{empty_contents, with_records};
@@ -6,20 +6,21 @@ ghost use Rattle.index_state.specs.State.{PathsInStorage, contents, storage_of};
 
 pub mod from_tree;
 
-use index_entries::Version;
-use index_entries::list::EntryList;
-use index_format::Parts;
-use index_format::extension::Outcome;
-use index_metadata::entry::FileTime;
-pub use index_objects::check::ComponentCheck;
+pub use base_objects::check::ComponentCheck;
+use entry_fields::entry::FileTime;
+use entry_list::Version;
+use entry_list::list::EntryList;
+use index_model::Parts;
+use index_model::extension::Outcome;
 use index_parts::hash::Kind;
 use index_state::State;
 
-/// An index of these entries, in the order of the list, with no extension: of version 2, for ids of this kind. Its
-/// timestamp is `now`.
+/// Returns an index of version 2 with the entries of `list`, in that order, for ids of the hash algorithm
+/// `object_hash`. It has no extension, and its timestamp is `now`.
 ///
-/// The entries and the storage of their paths are those of the list, so that it takes no memory. A file can hold it
-/// where each id is of the kind, and no path of 4095 bytes or more has a NUL: [`State::is_storable`] tells that.
+/// The entries and the storage of their paths are moved out of the list, so no memory is allocated. The index can be
+/// written to a file under these conditions: each id is of `object_hash`, and no path of 4095 bytes or more contains a
+/// NUL. [`State::is_storable`] tests this.
 pub fn from_entries(list: EntryList, object_hash: Kind, now: FileTime) -> State
     ensures entries { contents result
         ≡ with_records (empty_contents object_hash now) list.records }

@@ -1,3 +1,3 @@
-//! The trees that are written of an index.
+//! Writing the trees of an index: sinks and errors.
 
-pub use index_tree_writer::{Discard, Error, NameFault, Sink};
+pub use tree_encode::{Discard, Error, NameFault, Sink};

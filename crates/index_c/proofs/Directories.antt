@@ -1,4 +1,4 @@
--- What stands at a directory or below it, among rows that were searched.
+-- Which searched rows are a directory or below it.
 use Rattle.std.proofs.Common.{◌≡◌, ℕ, ◌<◌, ◌≤◌, ◌⊎◌, inl, inr, Bool, true, false, List, [], ◌∷◌, ◌++◌, length, get_or}
 use Rattle.std.proofs.Common.{map, Option, Some, None, refl, sym, ap, ◌∙◌, subst, arith}
 use Rattle.std.proofs.Math.ListN.{get_or-map as shift}
@@ -13,17 +13,17 @@ use Rattle.gix_index.specs.Closest.{is_below, is_itself, stands_in}
 use Rattle.gix_index.specs.Order.{IsOrderedByPath, path_cmp}
 use Rattle.gix_index.specs.Range.{is_at}
 use Rattle.gix_index.specs.Record.{Record}
-use Rattle.index_lookups.specs.SearchSteps.{prefix_answers}
-use Rattle.index_lookups.proofs.Closest.{any_none, below_in}
-use Rattle.index_lookups.proofs.Lookup.{split_by_path}
-use Rattle.index_lookups.proofs.RunsFound.{at_is}
-use Rattle.index_search.specs.Halving.{IsPartedAt}
-use Rattle.index_search.specs.Prefix.{prefix_cmp}
-use Rattle.index_search.proofs.Halving.{position_is, position_none}
-use Rattle.index_search.proofs.Parting.{less_from}
-use Rattle.index_search.proofs.Prefixes.{below_by_prefix}
+use Rattle.entry_lookup.specs.SearchSteps.{prefix_answers}
+use Rattle.entry_lookup.proofs.Closest.{any_none, below_in}
+use Rattle.entry_lookup.proofs.Lookup.{split_by_path}
+use Rattle.entry_lookup.proofs.RunsFound.{at_is}
+use Rattle.base_search.specs.Halving.{IsPartedAt}
+use Rattle.base_search.specs.Prefix.{prefix_cmp}
+use Rattle.base_search.proofs.Halving.{position_is, position_none}
+use Rattle.base_search.proofs.Parting.{less_from}
+use Rattle.base_search.proofs.Prefixes.{below_by_prefix}
 
--- what stands below a directory stands in it
+-- what is below a directory is in it
 pub below_stands : (directory : List ℕ) (rs : List Record) (count : ℕ) (o : Option ℕ) → length rs ≡ count
     → IfSome o (λ i. (i < count) × HoldsAt (λ r. is_below directory r ≡ true) rs i)
     → IfSome o (λ i. (i < count) × HoldsAt (λ r. stands_in directory r ≡ true) rs i)
@@ -31,7 +31,7 @@ below_stands directory rs count (Some i) many h =
     let inside : i < length rs = omega (arith, h.0, many) in (h.0, (below_in directory rs i (inside, h.1)).1)
 below_stands directory rs count None many h = tt
 
--- ---- where paths begin that aren't below the directory's
+-- ---- the first index at which paths aren't below the directory's
 
 same_answers : (f g : Record → Ordering) (b : Bool) (rs : List Record) (from to : ℕ) → to ≤ length rs
     → ((r : Record) → is_lt (g r) ≡ is_lt (f r))
@@ -72,7 +72,7 @@ module _ (directory : List ℕ) (rs : List Record) (low : ℕ) where
   above_from Greater e f = refl
 
   module _ (parted : IsPartedAt false (map (λ r. path_cmp r.path directory) rs) low) where
-    -- those in front of the first that isn't below are elsewhere
+    -- those before the first that isn't below are elsewhere
     front_other : (k : ℕ) (d : Record) → k < low → is_at directory (get_or rs k d) ≡ false
     front_other k d before =
         let less : path_cmp (get_or rs k d).path directory ≡ Less =
@@ -96,7 +96,7 @@ module _ (directory : List ℕ) (rs : List Record) (low : ℕ) where
           by (inr upto) = let same : k ≡ place =
               omega arith in ap (λ (i : ℕ). is_at directory (get_or rs i d)) same ∙ other d
 
-    -- none stands at the directory, if none does where those begin that aren't below it
+    -- no row is at the directory, if none is at the first index that isn't below it
     pub none_at : IsOrderedByPath rs → (low < length rs → HoldsAt (λ r. is_at directory r ≡ false) rs low)
         → list_any (is_at directory) rs ≡ false
     none_at o other = any_none (is_at directory) rs (λ k d within. by k d within (cases_lt k low))
@@ -106,7 +106,7 @@ module _ (directory : List ℕ) (rs : List Record) (low : ℕ) where
         by k d within (inr from) = let inside : low < length rs =
             omega arith in behind_other o low (omega arith) inside (other inside) k d from within
 
-    -- ---- the first that is the directory itself, where those from low up to a place aren't
+    -- ---- the first that is the directory itself, if those from low up to an index aren't
 
     not_itself : (r : Record) → is_at directory r ≡ false → is_itself directory r ≡ false
     not_itself r e = rw e refl

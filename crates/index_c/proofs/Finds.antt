@@ -6,15 +6,15 @@ use Rattle.std.specs.declared.cmp.Ordering.{Ordering}
 use Rattle.std.specs.Option.{ok_or}
 use Rattle.std.proofs.lemmas.Bool.Decides.{nat_tests}
 use Rattle.std.proofs.lemmas.List.{length-map}
-use Rattle.gix_index.specs.Lookup.{IsKeyAt, insertion_of, place_of}
+use Rattle.gix_index.specs.Lookup.{IsKeyAt, insertion_of, record_index}
 use Rattle.gix_index.specs.Order.{IsStrictlyOrdered, key_cmp}
 use Rattle.gix_index.specs.Record.{Record}
-use Rattle.index_lookups.proofs.Lookup.{key_answer, key_at, split_by_key}
-use Rattle.index_lookups.proofs.RunsFound.{within_map}
-use Rattle.index_search.specs.Halving.{IsBracket, IsEqualAt, IsGapAt, IsPartedAt, IsRising}
-use Rattle.index_search.proofs.Halving.{count_by_is}
-use Rattle.index_search.proofs.OrderedAnswers.{equal_at, gap_at, rising_of}
-use Rattle.index_search.proofs.Parting.{bracket_whole}
+use Rattle.entry_lookup.proofs.Lookup.{key_answer, key_at, split_by_key}
+use Rattle.entry_lookup.proofs.RunsFound.{within_map}
+use Rattle.base_search.specs.Halving.{IsBracket, IsEqualAt, IsGapAt, IsPartedAt, IsRising}
+use Rattle.base_search.proofs.Halving.{count_by_is}
+use Rattle.base_search.proofs.OrderedAnswers.{equal_at, gap_at, rising_of}
+use Rattle.base_search.proofs.Parting.{bracket_whole}
 use Rattle.index_c.specs.Finding.{place_among}
 
 -- ---- in the words of the lookups
@@ -30,14 +30,14 @@ module _ (path : List ℕ) (stage : ℕ) (rs : List Record) (r : Result ℕ ℕ)
   pub search_answer : (end : ℕ) → end ≡ length rs → IfErr r (λ i. i ≤ end)
       → (IsRising (map (key_cmp path stage) rs) → IsBracket (map (key_cmp path stage) rs) 0 end
       → IfErr r (IsGapAt (λ o. o) (map (key_cmp path stage) rs)))
-      → IsStrictlyOrdered rs → r ≡ ok_or (place_of path stage rs) (insertion_of path stage rs)
+      → IsStrictlyOrdered rs → r ≡ ok_or (record_index path stage rs) (insertion_of path stage rs)
   search_answer end many fits absent ordered =
       key_answer path stage rs r equal (subst (λ (n : ℕ). IfErr r (λ i. i ≤ n)) many fits)
       (gap_at (key_cmp path stage) rs 0 end r
       (bracket_whole (map (key_cmp path stage) rs) end (many ∙ sym (length-map rs (key_cmp path stage)))) absent)
       ordered
 
--- ---- as a place, of which one past the last stands for none
+-- ---- as an index, of which one past the last means none
 
 some_among : (count i : ℕ) → i < count → place_among count i ≡ Some i
 some_among count i within = grind (arith, nat_tests)
@@ -59,7 +59,7 @@ found_place count i n o within e = some_among count i within ∙ ok_is_some i n 
 pub missed_place : (count i n : ℕ) (o : Option ℕ) → Err i ≡ ok_or o n → place_among count count ≡ o
 missed_place count i n o e = none_among count ∙ err_is_none i n o e
 
--- ---- how many rows stand before
+-- ---- how many rows are before
 
 pub bound_is : (path : List ℕ) (stage : ℕ) (rs : List Record) (i : ℕ)
     → (IsRising (map (key_cmp path stage) rs) → IsPartedAt false (map (key_cmp path stage) rs) i)

@@ -1,15 +1,15 @@
--- Where the first row stands that is a directory or below it, with case ignored.
+-- The index of the first row that is a directory or below it, with case ignored.
 use Rattle.std.proofs.Common.{◌≡◌, ℕ, ◌<◌, Bool, true, List, [], ◌∷◌, length, Some, None, sym, ◌∙◌}
 use Rattle.std.proofs.Common.{arith}
 use Rattle.std.specs.List.{position}
 use Rattle.std.proofs.lemmas.List.Quantifiers.{position-Some}
 use Rattle.gix_index.specs.Searching.Folded.{folded_closest, stands_in_folded}
 use Rattle.index_c.specs.Finding.{place_among}
-use Rattle.index_table.specs.Table.{records_of, spelled}
-use Rattle.index_table.specs.declared.row.Row.{Row}
-use Rattle.index_table.proofs.FoldedPaths.{position_map}
+use Rattle.capi_table.specs.Table.{records_of, spelled}
+use Rattle.capi_table.specs.declared.row.Row.{Row}
+use Rattle.capi_table.proofs.FoldedPaths.{position_map}
 
--- a place that is found lies in the list
+-- an index that is found is in the list
 pub inside : {X : Type 0} (p : X → Bool) (xs : List X) (i : ℕ) → position p xs ≡ Some i → i < length xs
 inside p [] i e = absurd cc
 inside p (x ∷ xs) i e = (position-Some p (x ∷ xs) i x e).0

@@ -4,12 +4,12 @@ use Rattle.std.specs.declared.cmp.Ordering.{Ordering}
 use Rattle.std.proofs.lemmas.List.{length-map}
 use Rattle.gix_index.specs.Range.{IsPrefixRange, begins_with}
 use Rattle.gix_index.specs.Record.{Record}
-use Rattle.index_lookups.specs.SearchSteps.{prefix_answers}
-use Rattle.index_lookups.proofs.RunsFound.{begins_is, none_between, prefix_range, range_map, run_between}
-use Rattle.index_search.specs.Halving.{IsPartedAt}
-use Rattle.index_search.specs.Prefix.{prefix_cmp}
-use Rattle.index_table.specs.Table.{records_of, spelled}
-use Rattle.index_table.specs.declared.row.Row.{Row}
+use Rattle.entry_lookup.specs.SearchSteps.{prefix_answers}
+use Rattle.entry_lookup.proofs.RunsFound.{begins_is, none_between, prefix_range, range_map, run_between}
+use Rattle.base_search.specs.Halving.{IsPartedAt}
+use Rattle.base_search.specs.Prefix.{prefix_cmp}
+use Rattle.capi_table.specs.Table.{records_of, spelled}
+use Rattle.capi_table.specs.declared.row.Row.{Row}
 
 pub many_answers : (prefix paths : List ℕ) (rows : List Row)
     → length (prefix_answers prefix (records_of paths rows)) ≡ length rows

@@ -5,8 +5,8 @@ use Rattle.std.proofs.lemmas.Bool.{cases_lt}
 use Rattle.std.proofs.lemmas.List.{get_or-map}
 use Rattle.gix_index.specs.Record.{Record}
 use Rattle.index_c.specs.Finding.{RowGives}
-use Rattle.index_table.specs.Table.{spelled}
-use Rattle.index_table.specs.declared.row.Row.{Row}
+use Rattle.capi_table.specs.Table.{spelled}
+use Rattle.capi_table.specs.declared.row.Row.{Row}
 
 pub row_gives : {A : Type 0} (f : Record → A) (paths : List ℕ) (rows : List Row) (place : ℕ) (d : Row) (a : A)
     → place < length rows → a ≡ f (spelled paths (get_or rows place d)) → RowGives f paths rows place a

@@ -4,19 +4,19 @@ use Rattle.gix_index.specs.Hashing.Digest.{digest}
 use Rattle.gix_index.specs.Id.{make_id}
 use Rattle.gix_index.specs.Kind.{Kind}
 use Rattle.gix_index.specs.ObjectId.{ObjectId}
-use Rattle.index_numbers.specs.Numbers.{kind_numbered}
-use Rattle.index_numbers.specs.declared.status.TheConstants.{DONE, WRONG_NUMBER}
-use Rattle.index_table.specs.Table.{padded_id}
+use Rattle.capi_codes.specs.Numbers.{kind_numbered}
+use Rattle.capi_codes.specs.declared.status.TheConstants.{DONE, WRONG_NUMBER}
+use Rattle.capi_table.specs.Table.{padded_id}
 
--- what is hashed: the kind of object, a space, how many bytes it has, a NUL, and those
+-- what is hashed: the object's type, a space, the number of bytes, a NUL, and the bytes
 abbrev pub blob_message : List ℕ → List ℕ
 blob_message bytes = codes "blob " ++ (decimal (length bytes) ++ 0 ∷ bytes)
 
 unfoldable pub blob_id : Kind → List ℕ → ObjectId
 blob_id kind bytes = make_id kind (digest kind (blob_message bytes))
 
--- The id of the blob is given for a kind that is known, with zeros behind one of SHA-1. For another number it is as it
--- was.
+-- The id of the blob is given for a known hash algorithm, followed by zeros if it is of SHA-1. For another number the
+-- id is as it was.
 pub record GivesBlobId (number : ℕ) (bytes old new : List ℕ) (status : ℕ) : Type 0 where
   pub known : IfSome (kind_numbered number) (λ k. (status ≡ DONE) × (new ≡ padded_id (blob_id k bytes)))
   pub wrong : (status ≡ WRONG_NUMBER) ↔ (kind_numbered number ≡ None)

@@ -1,4 +1,4 @@
--- What a caller's numbers ask of a stat and of a mode (the library's own).
+-- What a caller's numbers request for a stat and a mode (the library's own).
 use Rattle.std.specs.Prelude.{◌≡◌, ◌≤◌, ◌<◌, ℕ, ℤ, Bool, true}
 use Rattle.std.specs.Option.{option_map_or}
 use Rattle.gix_index.specs.FileTime.{FileTime}
@@ -8,8 +8,8 @@ use Rattle.gix_index.specs.StatMatch.{is_racy}
 use Rattle.gix_index.specs.StatOptions.{Options}
 use Rattle.index_c.specs.declared.compare.Comparison.{Comparison}
 use Rattle.index_c.specs.declared.compare.Seen.{Seen as SeenTold}
-use Rattle.index_table.specs.Table.{row_stat}
-use Rattle.index_table.specs.declared.row.Row.{Row}
+use Rattle.capi_table.specs.Table.{row_stat}
+use Rattle.capi_table.specs.declared.row.Row.{Row}
 
 abbrev pub options_of : Comparison → Options
 options_of c = record {
@@ -29,12 +29,12 @@ seen_of s = record {
   executable_bit = s.executable_bit;
 }
 
--- the mode after the change that is due, and the same where none is
+-- the mode after the change that is due, or the same mode if none is due
 abbrev pub mode_for : ℕ → Seen → ℕ
 mode_for mode seen = option_map_or (λ change. mode_after change mode) (change_due mode seen) mode
 
--- whether a row's stat is in doubt at a time, and that it is where the nanoseconds are a second or more
-pub record TellsRacy (row : Row) (secs : ℤ) (nsecs : ℕ) (c : Comparison) (answer : Bool) : Type 0 where
+-- whether a row's stat is in doubt at a time; it always is if the nanoseconds are a second or more
+pub record RacyCodes (row : Row) (secs : ℤ) (nsecs : ℕ) (c : Comparison) (answer : Bool) : Type 0 where
   pub racy : nsecs < 1000000000 → (time : FileTime) → seconds_of time ≡ secs → nanoseconds_of time ≡ nsecs
       → answer ≡ is_racy (row_stat row) time (options_of c)
   pub no_time : 1000000000 ≤ nsecs → answer ≡ true

@@ -1,45 +1,45 @@
-//! Checking that an index is in order and that its cached tree holds together, with its shared index or without.
+//! Checking that an index is in order and that its cache tree is consistent, with or without its shared index.
 
 ghost use Rattle.std.specs.Prelude.{◌≡◌};
 ghost use Rattle.gix_index.specs.State.{contents};
-ghost use Rattle.index_c.specs.Checking.{IsFound, IsJudged, TellsCheck, TellsFlaw, flaw_number, flaw_place, order_place, tree_place};
-ghost use Rattle.index_c.specs.Reads.{ChecksIndex, ChecksSplit, FindsOfBoth, FindsOfIndex};
-ghost use Rattle.index_numbers.specs.Statuses.{TellsSummary};
-ghost use Rattle.index_numbers.specs.Summaries.{HasText};
+ghost use Rattle.index_c.specs.Checking.{IsCheckResult, IsJudged, CheckCodes, FlawCodes, flaw_number, flaw_place, order_place, tree_place};
+ghost use Rattle.index_c.specs.Reads.{ChecksIndexBytes, ChecksSplit, FindsOfBoth, FindsOfIndex};
+ghost use Rattle.capi_codes.specs.Statuses.{SummaryCodes};
+ghost use Rattle.capi_codes.specs.Summaries.{HasText};
 
+use capi_codes::fault::{CACHED_TREE, ORDER, put_fault};
+use capi_codes::number::kind_of;
+use capi_codes::status::{DONE, MEMORY, REFUSED};
+use capi_codes::summary::{Summary, blank, summary_of, tell_failure, tell_wrong_number};
+use capi_table::fault::{Failure, Whose};
+use capi_table::read::{Sizes, index_of, sizes_of};
+use capi_table::split::both_of;
 use gix_index::State;
 use gix_index::extension::tree;
 use gix_index::hash::Kind;
 use gix_index::object::NoObjects;
 use gix_index::verify::entries;
-use index_numbers::fault::{CACHED_TREE, ORDER, put_fault};
-use index_numbers::number::kind_of;
-use index_numbers::status::{DONE, MEMORY, REFUSED};
-use index_numbers::summary::{Summary, blank, summary_of, tell_failure, tell_wrong_number};
-use index_table::fault::{Failure, Whose};
-use index_table::read::{Sizes, index_of, sizes_of};
-use index_table::split::both_of;
 use std::alloc::Global;
 
-/// Why a state that was read isn't sound.
+/// Why a state that was read isn't valid.
 #[derive(Drop)]
 enum Flaw {
     /// Its entries aren't in order.
     Order(entries::Error),
-    /// Its cached tree doesn't hold together.
+    /// Its cache tree is inconsistent.
     CachedTree(tree::verify::Error),
 }
 
-/// What a check finds of a state that was read.
+/// The result of a check of a state that was read.
 #[derive(Drop)]
 struct Found {
-    /// What is told of the state, but for the bytes of its paths.
+    /// The sizes of the state, without the number of bytes of its paths.
     sizes: Sizes,
-    /// Whether it is sound.
+    /// Whether the state is valid.
     judged: Result<(), Flaw>,
 }
 
-/// The place of the entry that is out of order, or None where memory lacked to name it.
+/// Returns the index of the entry that is out of order, or `None` if memory was too short to name it.
 fn order_place(e: &entries::Error) -> Option<usize>
     ensures { result ≡ order_place e.now }
 {
@@ -49,7 +49,7 @@ fn order_place(e: &entries::Error) -> Option<usize>
     }
 }
 
-/// The place 0 for a fault of the cached tree, or None where memory lacked to name it.
+/// Returns the index 0 for an error of the cache tree, or `None` if memory was too short to name it.
 fn tree_place(e: &tree::verify::Error) -> Option<usize>
     ensures { result ≡ tree_place e.now }
 {
@@ -59,7 +59,7 @@ fn tree_place(e: &tree::verify::Error) -> Option<usize>
     }
 }
 
-/// The place that is told of a flaw, or None where memory lacked to name it.
+/// Returns the index that is reported for a flaw, or `None` if memory was too short to name it.
 fn flaw_place(flaw: &Flaw) -> Option<usize>
     ensures { result ≡ flaw_place flaw.now }
 {
@@ -69,7 +69,7 @@ fn flaw_place(flaw: &Flaw) -> Option<usize>
     }
 }
 
-/// The number of a flaw.
+/// Returns the number of a flaw.
 fn flaw_number(flaw: &Flaw) -> u32
     ensures { result ≡ flaw_number flaw.now }
 {
@@ -79,7 +79,7 @@ fn flaw_number(flaw: &Flaw) -> u32
     }
 }
 
-/// Writes what a flaw says.
+/// Writes the text of a flaw, and returns how many bytes were written.
 fn put_flaw(alloc: Global, flaw: &Flaw, text: &mut [u8]) -> usize
     ensures { HasText result text.old text.new }
 {
@@ -89,7 +89,7 @@ fn put_flaw(alloc: Global, flaw: &Flaw, text: &mut [u8]) -> usize
     }
 }
 
-/// Whether a state is sound, and else why not.
+/// Checks that a state is valid, and returns why not if it isn't.
 fn judge(alloc: Global, state: &State) -> Result<(), Flaw>
     ensures { IsJudged result (contents state.now) }
 {
@@ -102,9 +102,9 @@ fn judge(alloc: Global, state: &State) -> Result<(), Flaw>
     Ok(())
 }
 
-/// What a check finds of a state.
+/// Returns the result of a check of a state.
 fn found_of(alloc: Global, state: &State) -> Found
-    ensures { IsFound result (contents state.now) }
+    ensures { IsCheckResult result (contents state.now) }
 {
     Found {
         sizes: sizes_of(state, state.entries().len(), 0),
@@ -112,8 +112,8 @@ fn found_of(alloc: Global, state: &State) -> Found
     }
 }
 
-/// Checks the index of these bytes.
-fn checked(alloc: Global, bytes: &[u8], kind: Kind, skip_hash: bool) -> Result<Found, Failure>
+/// Checks the index of these bytes. An error is why they can't be read.
+fn check_index(alloc: Global, bytes: &[u8], kind: Kind, skip_hash: bool) -> Result<Found, Failure>
     ensures { FindsOfIndex skip_hash kind bytes.now result }
 {
     match index_of(alloc, bytes, kind, skip_hash, None) {
@@ -125,7 +125,8 @@ fn checked(alloc: Global, bytes: &[u8], kind: Kind, skip_hash: bool) -> Result<F
     }
 }
 
-/// Checks the index of these bytes, joined to the shared index that they link to.
+/// Checks the index of these bytes, joined to the shared index that they link to. An error is why they can't be read or
+/// joined.
 fn checked_both(
     alloc: Global,
     bytes: &[u8],
@@ -141,7 +142,8 @@ fn checked_both(
     }
 }
 
-/// Tells why a state isn't sound, or, where no place is named, of want of memory to name its flaw.
+/// Reports why a state isn't valid, and returns the status. If no index is named, it reports that memory was too short
+/// to name the flaw.
 fn tell_flaw(
     alloc: Global,
     sizes: &Sizes,
@@ -149,7 +151,7 @@ fn tell_flaw(
     text: &mut [u8],
     summary: &mut Summary,
 ) -> u32
-    ensures { TellsSummary MEMORY (TellsFlaw flaw.now sizes.now) result summary.new text.old
+    ensures { SummaryCodes MEMORY (FlawCodes flaw.now sizes.now) result summary.new text.old
         text.new }
 {
     let text_bytes = put_flaw(alloc, flaw, text);
@@ -169,14 +171,14 @@ fn tell_flaw(
     REFUSED
 }
 
-/// Tells what comes of a check.
+/// Reports the result of a check, and returns the status.
 fn tell(
     alloc: Global,
     checked: &Result<Found, Failure>,
     text: &mut [u8],
     summary: &mut Summary,
 ) -> u32
-    ensures { TellsSummary MEMORY (TellsCheck checked.now) result summary.new text.old text.new }
+    ensures { SummaryCodes MEMORY (CheckCodes checked.now) result summary.new text.old text.new }
 {
     let found = match checked {
         Ok(found) => found,
@@ -189,14 +191,21 @@ fn tell(
     DONE
 }
 
-/// Checks an index, given as all bytes of its file: they are read as `gix_index_read` reads them, the entries have to
-/// increase strictly by path, then stage, and the cached tree, where there is one, has to hold together and to count no
-/// more entries than there are.
+/// Checks an index, given as all bytes of its file.
 ///
-/// A link to a shared index isn't followed. `DONE`: all of it is so. `REFUSED`: the bytes are no index of this kind; or
-/// the fault is `ORDER`, and its place is the first entry that isn't above the one before it; or it is `CACHED_TREE`,
-/// and the entries are in order. `MEMORY`: a growth was refused. `WRONG_NUMBER`: the kind is none. The summary is
-/// always written; what lies behind the text is never touched.
+/// - The bytes are read as `gix_index_read` reads them. A link to a shared index isn't followed.
+/// - The entries must increase strictly by path, then by stage.
+/// - The cache tree, if there is one, must be consistent and must count no more entries than there are.
+///
+/// The status:
+///
+/// - `DONE`: the index passes.
+/// - `REFUSED`: the bytes are no index with this hash algorithm. Or the error is `ORDER`, and `fault_place` is that of
+///   the first entry that isn't above the one before it. Or it is `CACHED_TREE`, and the entries are in order.
+/// - `MEMORY`: an allocation failed.
+/// - `WRONG_NUMBER`: the hash algorithm is invalid.
+///
+/// The summary is always written. What follows the text is never changed.
 #[unsafe(no_mangle)]
 pub extern "C" fn gix_index_check(
     alloc: Global,
@@ -206,23 +215,26 @@ pub extern "C" fn gix_index_check(
     text: &mut [u8],
     summary: &mut Summary,
 ) -> u32
-    ensures { ChecksIndex kind skip_hash bytes.now summary.new text.old text.new result }
+    ensures { ChecksIndexBytes kind skip_hash bytes.now summary.new text.old text.new result }
 {
     let Some(kind) = kind_of(kind) else {
         return tell_wrong_number(summary);
     };
-    let found = checked(alloc, bytes, kind, skip_hash);
+    let found = check_index(alloc, bytes, kind, skip_hash);
     tell(alloc, &found, text, summary)
 }
 
-/// Checks an index, given as all bytes of its file, with the shared index that it links to, given as all bytes of that
-/// one's file: both are read and joined as `gix_index_read_split` does it, and what comes of it is checked as
-/// `gix_index_check` checks an index.
+/// Checks an index with the shared index that it links to, each given as all bytes of its file. Both are read and
+/// joined as `gix_index_read_split` does. The result is checked as `gix_index_check` checks an index.
 ///
-/// So where there is no link, or its id is zeros, the shared bytes aren't looked at, and with `DONE` the summary tells
-/// of no link. `DONE`: all of it is so. `REFUSED`: the fault is one that `gix_index_read_split` tells; or `ORDER`, and
-/// its place is that of the first entry of both that isn't above the one before it; or `CACHED_TREE`, and the entries
-/// of both are in order. All else is as there.
+/// If there is no link, or its id is zeros, the shared bytes aren't read. With `DONE` the summary has no link.
+///
+/// - `DONE`: the index passes.
+/// - `REFUSED`: the error is one that `gix_index_read_split` reports. Or it is `ORDER`, and `fault_place` is that of
+///   the first entry of both that isn't above the one before it. Or it is `CACHED_TREE`, and the entries of both are in
+///   order.
+///
+/// Everything else is as in `gix_index_check`.
 #[unsafe(no_mangle)]
 pub extern "C" fn gix_index_check_split(
     alloc: Global,

@@ -3,13 +3,13 @@
 ghost use Rattle.std.specs.Prelude.{◌≡◌, ◌<◌, length};
 ghost use Rattle.gix_index.specs.Closest.{is_below, is_directory_mode};
 ghost use Rattle.gix_index.specs.Range.{is_at};
-ghost use Rattle.index_c.specs.Finding.{FindsClosestRow, FindsFirst, FindsItself, RowGives, TellsClosest};
+ghost use Rattle.index_c.specs.Finding.{FindsClosestRow, FindsFirst, FindsItself, RowGives, ClosestCodes};
 
 use crate::prefix::ByPrefix;
-use index_search::ordered::{part, search_within};
-use index_table::row::{Row, path_of};
+use base_search::ordered::{part, search_within};
+use capi_table::row::{Row, path_of};
 
-/// Whether the row at a place has the path.
+/// Returns whether the row at an index has the path.
 fn has_path(rows: &[Row], paths: &[u8], place: usize, path: &[u8]) -> bool
     requires { place < length rows.now }
     ensures { RowGives (is_at path.now) paths.now rows.now place result }
@@ -18,14 +18,14 @@ fn has_path(rows: &[Row], paths: &[u8], place: usize, path: &[u8]) -> bool
     path_of(&row, paths) == path
 }
 
-/// Whether a row of this mode stands for a directory: a sparse one, or a submodule.
+/// Returns whether a row of this mode represents a directory: a sparse one, or a submodule.
 fn is_directory(mode: u32) -> bool
     ensures { result ≡ is_directory_mode mode }
 {
     mode == 0o040000 || mode == 0o160000
 }
 
-/// The first place of a row that is the directory itself, where the rows from `low` on aren't below its path.
+/// Returns the first index of a row that is the directory itself, if the rows from `low` on aren't below its path.
 fn first_itself(rows: &[Row], paths: &[u8], directory: &[u8], low: usize) -> Option<usize>
     ensures { FindsItself directory.now low paths.now rows.now result }
 {
@@ -40,7 +40,7 @@ fn first_itself(rows: &[Row], paths: &[u8], directory: &[u8], low: usize) -> Opt
     None
 }
 
-/// The first place of a row whose path goes on behind the directory and a slash.
+/// Returns the first index of a row whose path continues after the directory and a slash.
 fn first_below(rows: &[Row], paths: &[u8], directory: &[u8]) -> Option<usize>
     ensures { FindsFirst (is_below directory.now) paths.now rows.now result }
 {
@@ -53,7 +53,7 @@ fn first_below(rows: &[Row], paths: &[u8], directory: &[u8]) -> Option<usize>
     search_within(&places, 0, rows.len()).0.ok()
 }
 
-/// The place that is nearest to the directory, where there is one.
+/// Returns the index that is closest to the directory, if there is one.
 fn closest_place(rows: &[Row], paths: &[u8], directory: &[u8]) -> Option<usize>
     ensures { FindsClosestRow directory.now paths.now rows.now result }
 {
@@ -70,15 +70,17 @@ fn closest_place(rows: &[Row], paths: &[u8], directory: &[u8]) -> Option<usize>
     first_below(rows, paths, directory)
 }
 
-/// Where rows stand at the directory, the place of the first that stands for a directory itself, a sparse one or a
-/// submodule, and the number of rows where none does. Where no row stands at the directory, the place of the first row
-/// below it, whose path goes on behind the directory and a slash, and the number of rows where there is none.
+/// Returns the index of the row that is closest to a directory, or the number of rows if there is none.
 ///
-/// It is promised over rows whose paths never fall, as those of rows that strictly increase by path, then stage. Over
-/// others a place that is given still is the directory, or stands below it.
+/// - If rows have the directory's path, this is the first that represents a directory: a sparse one, or a submodule.
+/// - If no row has that path, this is the first row below the directory: its path continues after the directory and a
+///   slash.
+///
+/// This holds of rows whose paths never decrease, as in rows that strictly increase by path, then by stage. In other
+/// rows an index that is returned still is the directory's or is below it.
 #[unsafe(no_mangle)]
 pub extern "C" fn gix_index_closest(rows: &[Row], paths: &[u8], directory: &[u8]) -> usize
-    ensures { TellsClosest directory.now paths.now rows.now result }
+    ensures { ClosestCodes directory.now paths.now rows.now result }
 {
     match closest_place(rows, paths, directory) {
         Some(place) => place,

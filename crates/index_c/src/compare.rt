@@ -1,48 +1,48 @@
-//! Whether the file of a row is as it was: its stat, and its mode.
+//! Whether the file of a row is unchanged: its stat, and its mode.
 
 ghost use Rattle.std.specs.Prelude.{◌≡◌};
 ghost use Rattle.gix_index.specs.StatMatch.{is_match};
-ghost use Rattle.index_c.specs.Comparing.{TellsRacy, mode_for, options_of, seen_of};
-ghost use Rattle.index_table.specs.Table.{row_stat};
+ghost use Rattle.index_c.specs.Comparing.{RacyCodes, mode_for, options_of, seen_of};
+ghost use Rattle.capi_table.specs.Table.{row_stat};
 
+use capi_table::row::{Row, stat_of};
 use gix_index::BitFlags as _;
 use gix_index::entry::stat::Options;
 use gix_index::entry::{FileTime, Mode};
-use index_table::row::{Row, stat_of};
 
-/// What of a stat is compared, as git's configuration has it (git-config, "core.trustctime" and "core.checkStat").
+/// Which fields of a stat are compared, by git's configuration (git-config, "core.trustctime" and "core.checkStat").
 #[repr(C)]
 #[derive(Clone, Copy)]
 pub struct Comparison {
-    /// The ctime is.
+    /// Whether the ctime is compared.
     pub trust_ctime: bool,
-    /// Inode, owner and group are.
+    /// Whether inode, owner and group are compared.
     pub check_stat: bool,
-    /// Nanoseconds are, with `check_stat`.
+    /// Whether nanoseconds are compared, with `check_stat`.
     pub use_nsec: bool,
-    /// The device is, with `check_stat`.
+    /// Whether the device is compared, with `check_stat`.
     pub use_stdev: bool,
 }
 
-/// What is seen of a file in the work tree, and what its file system can hold.
+/// What is known of a file in the work tree, and what its file system supports.
 #[repr(C)]
 #[derive(Clone, Copy)]
 pub struct Seen {
-    /// It is a plain file.
+    /// Whether it is a plain file.
     pub is_file: bool,
-    /// It is a directory.
+    /// Whether it is a directory.
     pub is_dir: bool,
-    /// It is a link.
+    /// Whether it is a symbolic link.
     pub is_symlink: bool,
-    /// Its owner may run it.
+    /// Whether its owner may execute it.
     pub is_executable: bool,
-    /// There are links (git-config, "core.symlinks").
+    /// Whether the file system has symbolic links (git-config, "core.symlinks").
     pub has_symlinks: bool,
-    /// There is a bit for execution (git-config, "core.fileMode").
+    /// Whether the file system has an executable bit (git-config, "core.fileMode").
     pub executable_bit: bool,
 }
 
-/// The library's options.
+/// Returns the library's options.
 fn options_of(comparison: &Comparison) -> Options
     ensures { result ≡ options_of comparison.now }
 {
@@ -54,7 +54,7 @@ fn options_of(comparison: &Comparison) -> Options
     }
 }
 
-/// Whether two rows have the stat of the same unchanged file, as far as it is compared.
+/// Returns whether two rows have the stat of the same unchanged file, as far as it is compared.
 #[unsafe(no_mangle)]
 pub extern "C" fn gix_index_matches(row: &Row, seen: &Row, comparison: &Comparison) -> bool
     ensures { result ≡ is_match (row_stat row.now) (row_stat seen.now) (options_of comparison.now) }
@@ -62,8 +62,8 @@ pub extern "C" fn gix_index_matches(row: &Row, seen: &Row, comparison: &Comparis
     stat_of(row).matches(&stat_of(seen), options_of(comparison))
 }
 
-/// Whether the row's file may have changed when an index of this time was written, or later, so that its stat proves
-/// nothing. It may where there is a second or more of nanoseconds, as that is no time.
+/// Returns whether the row's file may have changed when an index of this time was written, or later, so that its stat
+/// proves nothing. If the nanoseconds are a second or more, which is no time, it may have changed.
 #[unsafe(no_mangle)]
 pub extern "C" fn gix_index_is_racy(
     row: &Row,
@@ -71,7 +71,7 @@ pub extern "C" fn gix_index_is_racy(
     nsecs: u32,
     comparison: &Comparison,
 ) -> bool
-    ensures { TellsRacy row.now secs nsecs comparison.now result }
+    ensures { RacyCodes row.now secs nsecs comparison.now result }
 {
     match FileTime::new(secs, nsecs) {
         Some(time) => stat_of(row).is_racy(time, options_of(comparison)),
@@ -79,7 +79,7 @@ pub extern "C" fn gix_index_is_racy(
     }
 }
 
-/// The mode that a row of this mode takes to be that of what is seen; the same where it fits.
+/// Returns the mode that a row of this mode takes to match the file, or the same mode if it matches.
 #[unsafe(no_mangle)]
 pub extern "C" fn gix_index_mode_for(mode: u32, seen: &Seen) -> u32
     ensures { result ≡ mode_for mode (seen_of seen.now) }

@@ -2,14 +2,14 @@
 
 ghost use Rattle.std.specs.Prelude.{◌≡◌, map};
 ghost use Rattle.gix_index.specs.Order.{key_cmp};
-ghost use Rattle.index_c.specs.Finding.{TellsBound, TellsKey};
-ghost use Rattle.index_table.specs.Table.{records_of, spelled};
+ghost use Rattle.index_c.specs.Finding.{BoundCodes, KeyCodes};
+ghost use Rattle.capi_table.specs.Table.{records_of, spelled};
 
-use index_search::ordered::{Ordered, part, search_within};
-use index_table::row::{Row, path_of, stage_of};
+use base_search::ordered::{Ordered, part, search_within};
+use capi_table::row::{Row, path_of, stage_of};
 use std::cmp::Ordering;
 
-/// How the row stands to a path and a stage.
+/// Compares the row with a path and a stage.
 fn compare(row: &Row, paths: &[u8], path: &[u8], stage: u32) -> Ordering
     ensures { result ≡ key_cmp path.now stage (spelled paths.now row.now) }
 {
@@ -18,7 +18,7 @@ fn compare(row: &Row, paths: &[u8], path: &[u8], stage: u32) -> Ordering
         .then(stage_of(row.flags).cmp(&stage))
 }
 
-/// Rows by path and stage, to those that are looked for.
+/// Rows by path and stage, for a search.
 #[derive(Clone, Copy)]
 struct ByKey<'a> {
     rows: &'a [Row],
@@ -39,14 +39,14 @@ impl Ordered for ByKey<'_> {
     }
 }
 
-/// The place of the row with the path and the stage, counted from 0, or the number of rows where there is none.
+/// Returns the index of the row with the path and the stage, counted from 0, or the number of rows if there is none.
 ///
-/// It is promised over rows that strictly increase by path, then stage, as those of a sound file do. Over others a
-/// place that is given still has the path and the stage. Stages are those of the flags. About as many rows are looked
-/// at as the number of rows has binary digits.
+/// This holds of rows that strictly increase by path, then by stage, as those of a valid file do. In other rows an
+/// index that is returned still has the path and the stage. Stages are those of the flags. The number of rows that are
+/// compared is about the number of binary digits of the number of rows.
 #[unsafe(no_mangle)]
 pub extern "C" fn gix_index_find(rows: &[Row], paths: &[u8], path: &[u8], stage: u32) -> usize
-    ensures { TellsKey path.now stage paths.now rows.now result }
+    ensures { KeyCodes path.now stage paths.now rows.now result }
 {
     let places = ByKey {
         rows,
@@ -60,10 +60,10 @@ pub extern "C" fn gix_index_find(rows: &[Row], paths: &[u8], path: &[u8], stage:
     }
 }
 
-/// The place that a row with the path and the stage has, or would be put at so that rows stay in order: how many rows
-/// stand before both.
+/// Returns the index of the row with the path and the stage. If there is none, returns the index at which it could be
+/// inserted so that rows stay in order. This is the number of rows that are before both.
 ///
-/// It is promised over the rows that [`gix_index_find`] takes; over others it is a place up to their number.
+/// This holds of the rows that [`gix_index_find`] takes. For other rows it is at most their number.
 #[unsafe(no_mangle)]
 pub extern "C" fn gix_index_lower_bound(
     rows: &[Row],
@@ -71,7 +71,7 @@ pub extern "C" fn gix_index_lower_bound(
     path: &[u8],
     stage: u32,
 ) -> usize
-    ensures { TellsBound path.now stage paths.now rows.now result }
+    ensures { BoundCodes path.now stage paths.now rows.now result }
 {
     let places = ByKey {
         rows,

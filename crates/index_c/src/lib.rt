@@ -1,7 +1,7 @@
-//! The git index for callers in C: each call reads, writes or takes tables in the caller's memory, and keeps nothing.
+//! The git index for callers in C: each call reads, writes or takes tables in the caller's memory, and keeps no state.
 //!
-//! `c/gix_index.h` declares the calls, and tells what a caller in C has to see to; `rust/` wraps them for Rust. What
-//! `index_table` answers in values is told here in numbers.
+//! `c/gix_index.h` declares the calls, and describes what a caller in C must ensure. `rust/` wraps them for Rust. The
+//! values that `capi_table` returns are converted to numbers here.
 #![tactic(auto)]
 
 pub mod blob;

@@ -2,36 +2,36 @@
 
 ghost use Rattle.std.specs.Prelude.{◌≡◌, ◌++◌, IfSome};
 ghost use Rattle.gix_index.specs.Range.{LiesWithin};
-ghost use Rattle.index_c.specs.Finding.{IsPrefixed, TellsPrefixed};
-ghost use Rattle.index_lookups.specs.SearchSteps.{prefix_answers};
-ghost use Rattle.index_search.specs.Prefix.{prefix_cmp};
-ghost use Rattle.index_table.specs.Table.{records_of, row_path};
+ghost use Rattle.index_c.specs.Finding.{IsPrefixed, PrefixCodes};
+ghost use Rattle.entry_lookup.specs.SearchSteps.{prefix_answers};
+ghost use Rattle.base_search.specs.Prefix.{prefix_cmp};
+ghost use Rattle.capi_table.specs.Table.{records_of, row_path};
 
-use index_numbers::status::{DONE, NONE};
-use index_search::ordered::{Ordered, part, part_within};
-use index_search::prefix::compare_pieces;
-use index_table::row::{Row, path_of};
+use base_search::ordered::{Ordered, part, part_within};
+use base_search::prefix::compare_pieces;
+use capi_codes::status::{DONE, NONE};
+use capi_table::row::{Row, path_of};
 use std::cmp::Ordering;
 use std::ops::Range;
 
-/// Places of a table, counted from 0: those from `start` up to `end`, without this.
+/// A range of rows of a table, counted from 0: those from `start` up to and excluding `end`.
 #[repr(C)]
 #[derive(Clone, Copy)]
 pub struct Places {
-    /// The first place.
+    /// The index of the first row.
     pub start: usize,
-    /// The first place behind them.
+    /// The index after the last row.
     pub end: usize,
 }
 
-/// Where the path of the row stands to a prefix in two pieces: equal where it begins with it.
+/// Compares the path of the row with a prefix in two pieces: equal if it begins with it.
 fn compare(row: &Row, paths: &[u8], prefix: &[u8], tail: &[u8]) -> Ordering
     ensures { result ≡ prefix_cmp (prefix.now ++ tail.now) (row_path paths.now row.now) }
 {
     compare_pieces(path_of(row, paths), prefix, tail)
 }
 
-/// Rows by what their paths begin with, to a prefix that is given in two pieces.
+/// Rows by what their paths begin with, for a search of a prefix that is given in two pieces.
 #[derive(Clone, Copy)]
 pub(crate) struct ByPrefix<'a> {
     pub(crate) rows: &'a [Row],
@@ -53,8 +53,8 @@ impl Ordered for ByPrefix<'_> {
     }
 }
 
-/// The places of the rows whose paths begin with a prefix, where there are any.
-fn prefixed(rows: &[Row], paths: &[u8], prefix: &[u8]) -> Option<Range<usize>>
+/// Returns the range of the rows whose paths begin with a prefix, if there are any.
+fn prefix_range(rows: &[Row], paths: &[u8], prefix: &[u8]) -> Option<Range<usize>>
     ensures in_range { IfSome result (LiesWithin (records_of paths.now rows.now)) }
     ensures prefixed { IsPrefixed prefix.now paths.now rows.now result }
 {
@@ -72,12 +72,15 @@ fn prefixed(rows: &[Row], paths: &[u8], prefix: &[u8]) -> Option<Range<usize>>
     if low < high { Some(low..high) } else { None }
 }
 
-/// Finds the rows whose paths begin with the bytes of the prefix. The empty one has all rows, also of a table without
-/// any.
+/// Finds the rows whose paths begin with the bytes of the prefix. The empty prefix has all rows, even if the table has
+/// none.
 ///
-/// Over rows whose paths never fall, as those of rows that strictly increase by path, then stage, they are all such
-/// rows. Over others they are rows of the table. `DONE`: their places are written. `NONE`: there are none, and the
-/// places are as they were. About as many rows are looked at as twice the number of rows has binary digits.
+/// In rows whose paths never decrease, these are all such rows. Rows that strictly increase by path, then by stage, are
+/// such rows. In other rows, these are rows of the table. About as many rows are compared as twice the number of binary
+/// digits of the number of rows.
+///
+/// - `DONE`: their range is written.
+/// - `NONE`: there are none, and the range is as it was.
 #[unsafe(no_mangle)]
 pub extern "C" fn gix_index_find_prefix(
     rows: &[Row],
@@ -85,9 +88,9 @@ pub extern "C" fn gix_index_find_prefix(
     prefix: &[u8],
     places: &mut Places,
 ) -> u32
-    ensures { TellsPrefixed prefix.now paths.now rows.now places.old places.new result }
+    ensures { PrefixCodes prefix.now paths.now rows.now places.old places.new result }
 {
-    match prefixed(rows, paths, prefix) {
+    match prefix_range(rows, paths, prefix) {
         Some(range) => {
             *places = Places {
                 start: range.start,

@@ -1,20 +1,20 @@
 //! Reading an index into a caller's table.
 
 ghost use Rattle.index_c.specs.Reads.{ReadsSplit, ReadsTable};
-ghost use Rattle.index_numbers.specs.Statuses.{TellsSummary};
-ghost use Rattle.index_numbers.specs.Summaries.{Tells};
+ghost use Rattle.capi_codes.specs.Statuses.{SummaryCodes};
+ghost use Rattle.capi_codes.specs.Summaries.{ReadCodes};
 
-use index_numbers::number::kind_of;
-use index_numbers::status::{DONE, NO_ROOM};
-use index_numbers::summary::{Summary, summary_of, tell_failure, tell_wrong_number};
-use index_table::read::{Sizes, Unread, read_table};
-use index_table::row::Row;
-use index_table::split::read_split;
+use capi_codes::number::kind_of;
+use capi_codes::status::{DONE, NO_ROOM};
+use capi_codes::summary::{Summary, summary_of, tell_failure, tell_wrong_number};
+use capi_table::read::{Sizes, Unread, read_table};
+use capi_table::row::Row;
+use capi_table::split::read_split;
 use std::alloc::Global;
 
-/// Tells what comes of reading bytes into a table.
+/// Reports the result of reading bytes into a table, and returns the status.
 fn tell(alloc: Global, read: Result<Sizes, Unread>, text: &mut [u8], summary: &mut Summary) -> u32
-    ensures { TellsSummary NO_ROOM (Tells read) result summary.new text.old text.new }
+    ensures { SummaryCodes NO_ROOM (ReadCodes read) result summary.new text.old text.new }
 {
     let (status, sizes) = match read {
         Ok(sizes) => (DONE, sizes),
@@ -27,12 +27,17 @@ fn tell(alloc: Global, read: Result<Sizes, Unread>, text: &mut [u8], summary: &m
 
 /// Reads an index from all bytes of its file into a table in the caller's memory.
 ///
-/// The kind is `SHA1` or `SHA256`. The digest of all bytes but the trailer is compared with the trailer, unless that is
-/// null or `skip_hash` is set. A link to a shared index isn't followed. `DONE`: the first rows and the first bytes for
-/// paths have the entries, in the order of the file. `REFUSED`: the bytes are no index of this kind. `MEMORY`: a growth
-/// was refused. `NO_ROOM`: the summary says how many rows and bytes for paths it takes. `WRONG_NUMBER`: the kind is
-/// none. With each status but `DONE` rows and paths are as they were. The summary is always written; what lies behind
-/// the entries, the paths and the text is never touched.
+/// The hash algorithm is `SHA1` or `SHA256`. The checksum of all bytes before the trailer is compared with the trailer,
+/// unless that is null or `skip_hash` is set. A link to a shared index isn't followed.
+///
+/// - `DONE`: the first rows and the first bytes for paths have the entries, in the order of the file.
+/// - `REFUSED`: the bytes are no index with this hash algorithm.
+/// - `MEMORY`: an allocation failed.
+/// - `NO_ROOM`: the summary has how many rows and bytes for paths are needed.
+/// - `WRONG_NUMBER`: the hash algorithm is invalid.
+///
+/// With each status except `DONE` rows and paths are as they were. The summary is always written. What follows the
+/// entries, the paths and the text is never changed.
 #[unsafe(no_mangle)]
 pub extern "C" fn gix_index_read(
     alloc: Global,
@@ -54,14 +59,17 @@ pub extern "C" fn gix_index_read(
     tell(alloc, read, text, summary)
 }
 
-/// Reads an index from all bytes of its file, with the shared index that it links to, given as all bytes of that one's
-/// file, into a table in the caller's memory.
+/// Reads an index with the shared index that it links to into a table in the caller's memory. Each is given as all
+/// bytes of its file.
 ///
-/// Both are read as `gix_index_read` reads bytes. Where there is no link, or its id is zeros, the shared bytes aren't
-/// looked at, and any will do. Else the shared file's trailer has to be the link's id, or zeros, and the table has the
-/// entries of both, joined as the link says (gitformat-index, "Split index"). So with `DONE` and `NO_ROOM` the summary
-/// tells of no link. `REFUSED`: the bytes are no index of this kind; or, with `of_shared`, those of the shared index
-/// aren't, or they aren't that one's; or the fault is `LINK`, and the two don't fit. All else is as there.
+/// Both are read as `gix_index_read` reads bytes. If there is no link, or its id is zeros, the shared bytes aren't
+/// read, and any are accepted. Otherwise the shared file's trailer must be the link's id, or zeros. The table then has
+/// the entries of both, joined by the link (gitformat-index, "Split index"). So with `DONE` and `NO_ROOM` the summary
+/// has no link.
+///
+/// `REFUSED`: the bytes are no index with this hash algorithm. With `of_shared`, those of the shared index are none, or
+/// are those of another shared index. With the error `LINK`, the two don't match. Everything else is as in
+/// `gix_index_read`.
 #[unsafe(no_mangle)]
 pub extern "C" fn gix_index_read_split(
     alloc: Global,

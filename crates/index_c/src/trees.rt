@@ -1,33 +1,33 @@
 //! Giving the trees of a caller's table.
 
 ghost use Rattle.std.specs.Prelude.{◌≡◌, ◌≤◌};
-ghost use Rattle.index_c.specs.Giving.{Tells, counts_told, fault_told};
+ghost use Rattle.index_c.specs.Giving.{TreesCodes, counts_report, error_report};
 ghost use Rattle.index_c.specs.Writes.{GivesTrees};
 
-use index_numbers::fault::number_of_table;
-use index_numbers::number::kind_of;
-use index_numbers::status::{DONE, MEMORY, NO_ROOM, REFUSED, WRONG_NUMBER};
-use index_table::row::Row;
-use index_table_trees::trees::{Counts, Tree, Unmade, write_trees};
+use capi_codes::fault::number_of_table;
+use capi_codes::number::kind_of;
+use capi_codes::status::{DONE, MEMORY, NO_ROOM, REFUSED, WRONG_NUMBER};
+use capi_table::row::Row;
+use capi_trees::trees::{Counts, Tree, Unmade, write_trees};
 use std::alloc::Global;
 
-/// What a call that gives trees says beside its status.
+/// What a call that gives trees reports in addition to its status.
 #[repr(C)]
 #[derive(Clone, Copy)]
 pub struct Given {
-    /// How many trees they are.
+    /// The number of trees.
     pub trees: usize,
-    /// How many bytes they have together.
+    /// The number of bytes that they have together.
     pub bytes: usize,
-    /// The place of the row that the fault names, or 0.
+    /// The index of the row that the error names, or 0.
     pub fault_place: usize,
-    /// The fault's number, or 0.
+    /// The error's number, or 0.
     pub fault: u32,
 }
 
-/// What is told of so many trees.
+/// Returns the report of these numbers of trees and bytes.
 fn told_of_counts(counts: &Counts) -> Given
-    ensures { result ≡ counts_told counts.now }
+    ensures { result ≡ counts_report counts.now }
 {
     Given {
         trees: counts.trees,
@@ -37,9 +37,9 @@ fn told_of_counts(counts: &Counts) -> Given
     }
 }
 
-/// What is told of a fault at a place.
+/// Returns the report of an error with an index.
 fn told_of_fault(fault: u32, fault_place: usize) -> Given
-    ensures { result ≡ fault_told fault fault_place }
+    ensures { result ≡ error_report fault fault_place }
 {
     Given {
         trees: 0,
@@ -49,10 +49,10 @@ fn told_of_fault(fault: u32, fault_place: usize) -> Given
     }
 }
 
-/// Tells what comes of writing trees.
+/// Reports the result of writing trees, and returns the status.
 fn tell(written: &Result<Counts, Unmade>, told: &mut Given) -> u32
     ensures status { result ≤ NO_ROOM }
-    ensures told { Tells written.now result told.new }
+    ensures told { TreesCodes written.now result told.new }
 {
     let (status, said) = match written {
         Ok(counts) => (DONE, told_of_counts(counts)),
@@ -67,19 +67,26 @@ fn tell(written: &Result<Counts, Unmade>, told: &mut Given) -> u32
     status
 }
 
-/// Gives the trees that `git write-tree` makes of a table: a row for each directory's, with its id, and its bytes. Each
-/// stands behind those that it names, the root's last, and their bytes one behind the other.
+/// Gives the trees that `git write-tree` makes of a table: a row for each directory's tree, with its id, and its bytes.
+/// Each tree follows those that it names, and the root's is the last. Their bytes are concatenated.
 ///
-/// Rows that are marked `REMOVE` are passed over. One that is only intended to be added is looked at as the others, but
-/// stands in no tree. A row may stand for a whole directory, as of a sparse index, and then for its tree.
+/// Rows that are marked `REMOVE` are skipped. A row that is only intended to be added is checked as the others are, but
+/// is in no tree. A row may represent a directory, as in a sparse index, and then it represents the directory's tree.
 ///
-/// `DONE`: the first of the trees and of the bytes are these. `NO_ROOM`: they take more, and how much is told.
-/// `REFUSED`: the row at the place can't stand in a file (`ROW`, `MODE`), or isn't above the one before it (`ORDER`);
-/// or it is the first that can't stand in a tree: it is in conflict (`UNMERGED`), a name of its path is none that git
-/// lets stand in one (`NAME`), its path lies below another's (`BELOW`), or its id is zeros, it lies below more than
-/// 2048 directories, or it stands for a directory without a slash behind it (`ROW`); or there are more than 2147483647
-/// rows (`COUNT`). `MEMORY`: a growth was refused; each row can stand in a file, and they are in order. `WRONG_NUMBER`:
-/// the kind is none. With each status but `DONE` both rooms are as they were. What is told is always written.
+/// - `DONE`: the rooms begin with the trees and the bytes.
+/// - `NO_ROOM`: they need more, and how much is reported.
+/// - `REFUSED`: the first row that can't be in a file (`ROW`, `MODE`) or isn't above the one before it (`ORDER`).
+///   Otherwise the first row that can't be in a tree:
+///     - it is in conflict (`UNMERGED`);
+///     - git doesn't allow a name of its path (`NAME`);
+///     - its path is below another's (`BELOW`);
+///     - its id is zeros, or it is below more than 2048 directories (`ROW`);
+///     - it represents a directory, and its path doesn't end with a slash (`ROW`).
+/// - `REFUSED` with `COUNT`: there are more than 2147483647 rows.
+/// - `MEMORY`: an allocation failed. Each row can be in a file, and they are in order.
+/// - `WRONG_NUMBER`: the hash algorithm is invalid.
+///
+/// With each status except `DONE` both rooms are as they were. The report is always written.
 #[unsafe(no_mangle)]
 pub extern "C" fn gix_index_trees(
     alloc: Global,

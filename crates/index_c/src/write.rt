@@ -2,48 +2,48 @@
 
 ghost use Rattle.std.specs.Prelude.{◌≡◌, ◌↔◌, IfSome, None};
 ghost use Rattle.index_c.specs.Writes.{WritesForm, WritesInPlace};
-ghost use Rattle.index_c.specs.Written.{Asks, HasWrongNumber, Tells, TellsOver, TellsUnread, TellsWritten, TellsWrongNumber, fault_told, image_told};
+ghost use Rattle.index_c.specs.Written.{Asks, HasWrongNumber, TableCodes, ReplaceCodes, UnreadCodes, WrittenCodes, WrongNumberCodes, write_error_report, image_report};
 
+use capi_codes::fault::{number_of_error, number_of_table, status_of_error};
+use capi_codes::number::{OWN, choice_of, kind_of, number_of_tree};
+use capi_codes::status::{DONE, MEMORY, NO_ROOM, REFUSED, WRONG_NUMBER};
+use capi_table::over::{CachedTree, Replacement, write_over};
+use capi_table::row::Row;
+use capi_table::write::{Format, Image, Unwritten, write_table};
 use gix_index::file;
-use index_numbers::fault::{number_of_error, number_of_table, status_of_error};
-use index_numbers::number::{OWN, choice_of, kind_of, number_of_tree};
-use index_numbers::status::{DONE, MEMORY, NO_ROOM, REFUSED, WRONG_NUMBER};
-use index_table::over::{CachedTree, Replacement, write_over};
-use index_table::row::Row;
-use index_table::write::{Format, Image, Unwritten, write_table};
 use std::alloc::Global;
 
 /// How a table is to be written.
 #[repr(C)]
 #[derive(Clone, Copy)]
 pub struct Form {
-    /// The kind of the ids, and of the digest.
+    /// The hash algorithm of the ids and of the checksum.
     pub kind: u32,
-    /// 4, or 2 or 3, which both ask for the smaller of these that has the flags.
+    /// 4; or 2 or 3, which both request the smaller of these two that has the flags.
     pub version: u32,
-    /// Whether the trailer is zeros in place of the digest.
+    /// Whether the trailer is zeros in place of the checksum.
     pub skip_hash: bool,
 }
 
-/// What a call that writes says beside its status.
+/// What a call that writes reports in addition to its status.
 #[repr(C)]
 #[derive(Clone, Copy)]
 pub struct Written {
-    /// How many bytes the index has.
+    /// The number of bytes of the index.
     pub bytes: usize,
-    /// The place that the fault names, or 0.
+    /// The index of the row or entry that the error names, or 0.
     pub fault_place: usize,
-    /// The fault's number, or 0.
+    /// The error's number, or 0.
     pub fault: u32,
     /// The version: 2, 3 or 4.
     pub version: u32,
-    /// What became of the cached tree of an index that was written over.
+    /// What became of the cache tree extension of an index that was written over.
     pub tree: u32,
-    /// 1 where the fault, or the want of memory, is of the shared index of one that is updated; else 0.
+    /// 1 if the error is in the shared index of one that is updated, or memory ran out for it; else 0.
     pub of_shared: u32,
 }
 
-/// The format that a form asks for, where its numbers are some.
+/// Returns the format that a form requests, or `None` if it has an invalid number.
 fn format_of(form: &Form) -> Option<Format>
     ensures asks { IfSome result (Asks form.now) }
     ensures wrong { result ≡ None ↔ HasWrongNumber form.now }
@@ -55,9 +55,9 @@ fn format_of(form: &Form) -> Option<Format>
     })
 }
 
-/// What is told of an image, and of a cached tree.
+/// Returns the report of an image and of a cache tree.
 fn told_of_image(image: &Image, tree: CachedTree) -> Written
-    ensures { result ≡ image_told image.now tree }
+    ensures { result ≡ image_report image.now tree }
 {
     Written {
         bytes: image.bytes,
@@ -69,9 +69,9 @@ fn told_of_image(image: &Image, tree: CachedTree) -> Written
     }
 }
 
-/// What is told of a fault at a place, and of a cached tree.
+/// Returns the report of an error with an index, and of a cache tree.
 pub(crate) fn told_of_fault(fault: u32, fault_place: usize, tree: CachedTree) -> Written
-    ensures { result ≡ fault_told fault fault_place tree }
+    ensures { result ≡ write_error_report fault fault_place tree }
 {
     Written {
         bytes: 0,
@@ -83,9 +83,9 @@ pub(crate) fn told_of_fault(fault: u32, fault_place: usize, tree: CachedTree) ->
     }
 }
 
-/// Tells what comes of writing a table, and of a cached tree.
+/// Reports the result of writing a table, and of a cache tree, and returns the status.
 pub(crate) fn tell(written: &Result<Image, Unwritten>, tree: CachedTree, told: &mut Written) -> u32
-    ensures { TellsWritten NO_ROOM (Tells written.now tree) result told.new }
+    ensures { WrittenCodes NO_ROOM (TableCodes written.now tree) result told.new }
 {
     let (status, said) = match written {
         Ok(image) => (DONE, told_of_image(image, tree)),
@@ -100,18 +100,18 @@ pub(crate) fn tell(written: &Result<Image, Unwritten>, tree: CachedTree, told: &
     status
 }
 
-/// Tells why the bytes of the index that is written over aren't read.
+/// Reports why the bytes of the index that is written over aren't read, and returns the status.
 fn tell_unread(e: &file::init::Error, told: &mut Written) -> u32
-    ensures { TellsWritten MEMORY (TellsUnread e.now) result told.new }
+    ensures { WrittenCodes MEMORY (UnreadCodes e.now) result told.new }
 {
     let fault = number_of_error(e);
     *told = told_of_fault(fault.number, fault.place, CachedTree::Absent);
     status_of_error(e)
 }
 
-/// Tells what comes of writing a table over an index.
+/// Reports the result of writing a table over an index, and returns the status.
 fn tell_over(over: &Result<Replacement, file::init::Error>, told: &mut Written) -> u32
-    ensures { TellsWritten NO_ROOM (TellsOver over.now) result told.new }
+    ensures { WrittenCodes NO_ROOM (ReplaceCodes over.now) result told.new }
 {
     match over {
         Ok(replaced) => tell(&replaced.written, replaced.tree, told),
@@ -119,9 +119,9 @@ fn tell_over(over: &Result<Replacement, file::init::Error>, told: &mut Written) 
     }
 }
 
-/// Tells that a number of the form is none.
+/// Reports that a number of the form is invalid, and returns `WRONG_NUMBER`.
 pub(crate) fn tell_wrong_number(told: &mut Written) -> u32
-    ensures { TellsWrongNumber result told.new }
+    ensures { WrongNumberCodes result told.new }
 {
     *told = told_of_fault(0, 0, CachedTree::Absent);
     WRONG_NUMBER
@@ -129,11 +129,15 @@ pub(crate) fn tell_wrong_number(told: &mut Written) -> u32
 
 /// Writes a table, as `gix_index_read` fills one, as all bytes of an index without extensions.
 ///
-/// `DONE`: the first bytes of the room are the index. `NO_ROOM`: it has more than the room, and how many is told.
-/// `REFUSED`: the row at the place can't stand in such a file (`ROW`), or isn't above the one before it by path, then
-/// stage (`ORDER`); or there are more rows or bytes than a file can count. `MEMORY`: a growth was refused; each row can
-/// stand in such a file, and they are in order. `WRONG_NUMBER`: the kind or the version is none. With each status but
-/// `DONE` the room is as it was. What is told is always written; what lies behind the index is never touched.
+/// - `DONE`: the first bytes of the room are the index.
+/// - `NO_ROOM`: the index has more bytes than the room, and their number is reported.
+/// - `REFUSED`: the row at `fault_place` can't be in such a file (`ROW`, `MODE`), or isn't above the one before it by
+///   path, then by stage (`ORDER`). Or there are more rows (`COUNT`) or bytes (`LENGTH`) than a file can count.
+/// - `MEMORY`: an allocation failed. Each row can be in such a file, and they are in order.
+/// - `WRONG_NUMBER`: the hash algorithm or the version is invalid.
+///
+/// With each status except `DONE` the room is as it was. The report is always written. What follows the index in the
+/// room is never changed.
 #[unsafe(no_mangle)]
 pub extern "C" fn gix_index_write(
     alloc: Global,
@@ -152,16 +156,17 @@ pub extern "C" fn gix_index_write(
     tell(&written, CachedTree::Absent, told)
 }
 
-/// Writes a table as all bytes of an index that takes the place of another, given as all bytes of its file. They are
-/// read as `gix_index_read` reads them, with their digest, and are no longer needed then.
+/// Writes a table as all bytes of an index that replaces another, given as all bytes of its file. Those are read as
+/// `gix_index_read` reads them, with their checksum, and aren't needed afterwards.
 ///
-/// Of that index the mark of a sparse one is kept, and then rows may stand for directories. Its cached tree is kept
-/// exactly where it tells what the rows give: none that isn't in conflict is at fault, and each node of it that has a
-/// count has the id and the count that `git write-tree` gives its directory, and no row in conflict below that. What
-/// became of it is told. Other extensions aren't kept, but an end marker stands behind those that are.
+/// - The mark of a sparse index is preserved, and then rows may represent directories.
+/// - The cache tree extension (TREE) is preserved exactly if it matches what the rows give. No row may have an error,
+///   except those in conflict. Each node of it that has a count must have the id and the count that `git write-tree`
+///   gives its directory. No row in conflict may be below that directory. What became of it is reported.
+/// - Other extensions aren't preserved. An end marker follows those that are.
 ///
-/// `DONE`, `NO_ROOM`, `REFUSED`, `WRONG_NUMBER`: as `gix_index_write` answers them; `REFUSED` before, where the bytes
-/// of the index are refused, with the fault that `gix_index_read` tells. `MEMORY`: a growth was refused.
+/// `DONE`, `NO_ROOM`, `REFUSED` and `WRONG_NUMBER` are as in `gix_index_write`. `REFUSED` is also returned first if the
+/// bytes of the index are rejected, with the error that `gix_index_read` reports. `MEMORY`: an allocation failed.
 #[unsafe(no_mangle)]
 pub extern "C" fn gix_index_write_over(
     alloc: Global,

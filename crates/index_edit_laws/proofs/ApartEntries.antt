@@ -1,5 +1,5 @@
--- Entries of which none is a file where another needs a folder stay so behind changes, and nothing comes to lie in a
--- whole directory, where no change is of a path in one.
+-- If no entry is a file at a path at which another needs a directory, this still holds after changes. If no change has
+-- a path in a directory that is one entry, no entry comes to be in one.
 use Rattle.std.proofs.Common.{◌≡◌, ◌⊎◌, inl, inr, ℕ, ◌==◌, List, [], ◌∷◌, ◌++◌, Bool, true, false}
 use Rattle.std.proofs.Common.{◌||◌, length, take, Option, Some, None, refl, sym, ap, subst, ◌∙◌, append_assoc}
 use Rattle.std.proofs.Common.{get_or, nat_eq, arith}
@@ -13,27 +13,27 @@ use Rattle.std.proofs.lemmas.List.Folds.{list_any_none}
 use Rattle.std.proofs.lemmas.Option.{same_Some}
 use Rattle.std.proofs.Math.Seq.{take-append_seam}
 use Rattle.index_parts.specs.declared.hash.Kind.{Kind}
-use Rattle.index_objects.specs.Mode.{directory_mode, named_kind}
-use Rattle.index_objects.specs.declared.object.tree.EntryKind.{EntryKind}
-use Rattle.index_objects.specs.declared.object.tree.EntryKind.TheVariants as kinds
-use Rattle.index_entries.specs.EntryImage.{is_removed}
-use Rattle.index_entries.specs.Order.{record_stage}
-use Rattle.index_entries.specs.Record.{Record, with_path}
-use Rattle.index_lookups.specs.Closest.{is_below}
-use Rattle.index_lookups.proofs.Pairs.{contains_head, contains_tail}
-use Rattle.index_lookups.proofs.TableMade.{and_both, and_to, or_left, or_right, same_to}
-use Rattle.index_edits.specs.Changes.{applied_one, path_of, takes_out}
-use Rattle.index_edits.specs.Refusals.{Check}
-use Rattle.index_edits.specs.Wholes.{goes_on, is_around, lies_in_whole}
-use Rattle.index_edits.proofs.Arounds.{goes_behind}
-use Rattle.index_edits.specs.Edits.{are_at_odds, is_displaced, is_succeeded}
-use Rattle.index_edits.specs.declared.change.Change.{Change}
-use Rattle.index_edits.specs.declared.change.Change.TheVariants as changes
-use Rattle.index_edits.proofs.Members.{contains_cases}
-use Rattle.index_edits.proofs.Swaps.{CameFrom, IsNew, came_from, new_path}
-use Rattle.index_tree_writer.specs.Refusals.{AreFit, BeginsWith, IsBelow, IsFit, IsInside, LieApart}
-use Rattle.index_tree_writer.specs.Staged.{Staged, is_intended, is_unmerged, merged_in, staged_entry, staged_in}
-use Rattle.index_tree_writer.proofs.Checked.{staged_each}
+use Rattle.base_objects.specs.Mode.{directory_mode, named_kind}
+use Rattle.base_objects.specs.declared.object.tree.EntryKind.{EntryKind}
+use Rattle.base_objects.specs.declared.object.tree.EntryKind.TheVariants as kinds
+use Rattle.entry_list.specs.EntryImage.{is_removed}
+use Rattle.entry_list.specs.Order.{record_stage}
+use Rattle.entry_list.specs.Record.{Record, with_path}
+use Rattle.entry_lookup.specs.Closest.{is_below}
+use Rattle.entry_lookup.proofs.Pairs.{contains_head, contains_tail}
+use Rattle.entry_lookup.proofs.TableMade.{and_both, and_to, or_left, or_right, same_to}
+use Rattle.entry_edit.specs.Changes.{applied_one, change_path, takes_out}
+use Rattle.entry_edit.specs.Refusals.{Check}
+use Rattle.entry_edit.specs.Wholes.{goes_on, is_around, lies_in_whole}
+use Rattle.entry_edit.proofs.Arounds.{goes_behind}
+use Rattle.entry_edit.specs.Edits.{have_df_conflict, is_displaced, is_succeeded}
+use Rattle.entry_edit.specs.declared.change.Change.{Change}
+use Rattle.entry_edit.specs.declared.change.Change.TheVariants as changes
+use Rattle.entry_edit.proofs.Members.{contains_cases}
+use Rattle.entry_edit.proofs.Swaps.{CameFrom, IsNew, came_from, new_path}
+use Rattle.tree_encode.specs.Refusals.{AreFit, HasPathPrefix, IsBelow, IsTreeRecord, IsInside, AreDisjointPaths}
+use Rattle.tree_encode.specs.Staged.{Staged, is_intended, is_unmerged, merged_in, staged_entry, staged_in}
+use Rattle.tree_encode.proofs.Checked.{staged_each}
 use Rattle.index_edit_laws.proofs.FitEntries.{merged_of, merged_parts, merged_stage}
 use Rattle.index_edit_laws.proofs.WholeDirectories.{false_from, not_around, slash_end, whole_kind, whole_mode}
 use Rattle.index_edit_laws.proofs.WholeDirectories.{whole_new}
@@ -102,10 +102,10 @@ below_to dir path b =
 never_below_itself : (path : List ℕ) → IsBelow path path → ⊥
 never_below_itself path b = omega (arith, ap length b.1, length-append path (47 ∷ b.0))
 
--- what lies below the new record at its stage, or above it, goes
+-- what is below the new record at its stage, or above it, is removed
 odds_go : (new r : Record) → record_stage r ≡ record_stage new → (is_below new.path r || is_below r.path new) ≡ true
     → is_displaced new r ≡ true
-odds_go new r e t = or_right (is_succeeded new r) (are_at_odds new r)
+odds_go new r e t = or_right (is_succeeded new r) (have_df_conflict new r)
     (and_to (record_stage r == record_stage new) (is_below new.path r || is_below r.path new)
     (eq-eqb (record_stage r) (record_stage new) e) t)
 
@@ -137,7 +137,8 @@ module _ (rs : List Record) where
   same_new (changes.Stage entry path) r q e f = e ∙ sym f
   same_new (changes.Unstage path) r q e f = absurd e
 
-  module _ (c : Change) (apart : LieApart (staged_in (merged_in rs))) (s t : Staged) (o : IsOrigin (applied_one c rs) s)
+  module _ (c : Change) (apart : AreDisjointPaths (staged_in (merged_in rs))) (s t : Staged) (o : IsOrigin (applied_one
+      c rs) s)
       (p : IsOrigin (applied_one c rs) t) where
     one : (is_unmerged o.origin.flags ≡ false) × IsStagedOf o.origin s
     one = ((merged_parts (applied_one c rs) o.origin o.there).1, staged_of o.origin s o.entry)
@@ -171,7 +172,7 @@ module _ (check pass : Check) (kind : Kind) (c : Change) (rs : List Record) (f :
   abbrev now : List Record
   now = applied_one c rs
 
-  -- where no whole directory has the path in it, none has after the change
+  -- if no directory that is one entry has the path in it, none has after the change
   pub outside_then : (path : List ℕ) → lies_in_whole path rs ≡ false → lies_in_whole path now ≡ false
   outside_then path out = list_any_none (is_around path) now (λ i d within.
       let r = get_or now i d in
@@ -183,18 +184,18 @@ module _ (check pass : Check) (kind : Kind) (c : Change) (rs : List Record) (f :
       by r t m (inl n) = whole_new check kind c r f n (whole_kind r.mode m)
       by r t m (inr p) = not_around path rs out r p.0 t
 
-  module _ (out : lies_in_whole (path_of c) rs ≡ false) (fit : AreFit pass kind (merged_in rs)) where
+  module _ (out : lies_in_whole (change_path c) rs ≡ false) (fit : AreFit pass kind (merged_in rs)) where
     around_new : (r : Record) (path : List ℕ) → Contains (merged_in rs) r → is_removed r.flags ≡ false
-        → named_kind r.mode ≡ Some kinds.Tree → path ≡ path_of c → BeginsWith path r.path → path ≡ r.path
+        → named_kind r.mode ≡ Some kinds.Tree → path ≡ change_path c → HasPathPrefix path r.path → path ≡ r.path
     around_new r path there present e same b =
-        let has = (All-contains (IsFit pass kind) (merged_in rs) r fit.each there present).1 in
+        let has = (All-contains (IsTreeRecord pass kind) (merged_in rs) r fit.each there present).1 in
         let tree : has.0 ≡ kinds.Tree = same_Some has.0 kinds.Tree (sym has.1.0 ∙ e) in
         by (goes_behind r.path path b.0 b.1 (slash_end pass 2048 has.0 r.path has.1.1 tree))
       where
         by : (path ≡ r.path) ⊎ (goes_on r.path path ≡ true) → path ≡ r.path
         by (inl x) = x
-        by (inr x) = absurd (not_around (path_of c) rs out r (merged_parts rs r there).0
-            (and_to (r.mode == directory_mode) (goes_on r.path (path_of c)) (whole_mode r.mode e)
+        by (inr x) = absurd (not_around (change_path c) rs out r (merged_parts rs r there).0
+            (and_to (r.mode == directory_mode) (goes_on r.path (change_path c)) (whole_mode r.mode e)
             (subst (λ (l : List ℕ). goes_on r.path l ≡ true) same x)))
 
     inside_stays : (s t : Staged) (o : IsOrigin now s) (p : IsOrigin now t) → IsInside t.path s → t.path ≡ s.path
@@ -214,7 +215,7 @@ module _ (check pass : Check) (kind : Kind) (c : Change) (rs : List Record) (f :
         merged : (r : Record) → Contains rs r → Contains (merged_in now) r → Contains (merged_in rs) r
         merged r x there = merged_of rs r x (merged_parts now r there).1
 
-        begins : BeginsWith t.path o.origin.path
+        begins : HasPathPrefix t.path o.origin.path
         begins = (i.1.0, i.1.1 ∙ ap (λ (l : List ℕ). l ++ i.1.0) m.path)
 
         by : CameFrom c rs o.origin → CameFrom c rs p.origin → t.path ≡ s.path
@@ -226,7 +227,7 @@ module _ (check pass : Check) (kind : Kind) (c : Change) (rs : List Record) (f :
             (staged_there (merged_in rs) o.origin s (merged o.origin x.0 o.there) o.entry)
             (staged_there (merged_in rs) p.origin t (merged p.origin y.0 p.there) p.entry) i
 
-    pub apart_then : LieApart (staged_in (merged_in now))
+    pub apart_then : AreDisjointPaths (staged_in (merged_in now))
     apart_then = record {
       below = λ s t x y b. below_stays rs c fit.apart s t (origin_of now s x) (origin_of now t y) b;
       inside = λ s t x y i. inside_stays s t (origin_of now s x) (origin_of now t y) i;

@@ -5,17 +5,17 @@ use Rattle.std.specs.List.{starts_with}
 use Rattle.std.specs.Option.{option_and_then}
 use Rattle.std.proofs.lemmas.List.{take-append-drop}
 use Rattle.std.proofs.lemmas.Option.{same_Some}
-use Rattle.index_entries.specs.Order.{record_stage}
-use Rattle.index_entries.specs.Record.{Record, with_path}
-use Rattle.index_lookups.specs.Closest.{is_below}
-use Rattle.index_lookups.proofs.TableMade.{and_both, or_cases, same_from}
-use Rattle.index_edits.specs.Changes.{path_of, takes_out}
-use Rattle.index_edits.specs.Edits.{are_at_odds, is_succeeded}
-use Rattle.index_edits.specs.declared.change.Change.{Change}
-use Rattle.index_edits.specs.declared.change.Change.TheVariants as changes
-use Rattle.index_lookups.specs.Range.{is_at}
-use Rattle.index_tree_writer.specs.TreeIds.{behind, behind_all}
-use Rattle.index_tree_writer.proofs.Behinds.{behind_at, behind_is}
+use Rattle.entry_list.specs.Order.{record_stage}
+use Rattle.entry_list.specs.Record.{Record, with_path}
+use Rattle.entry_lookup.specs.Closest.{is_below}
+use Rattle.entry_lookup.proofs.TableMade.{and_both, or_cases, same_from}
+use Rattle.entry_edit.specs.Changes.{change_path, takes_out}
+use Rattle.entry_edit.specs.Edits.{have_df_conflict, is_succeeded}
+use Rattle.entry_edit.specs.declared.change.Change.{Change}
+use Rattle.entry_edit.specs.declared.change.Change.TheVariants as changes
+use Rattle.entry_lookup.specs.Range.{is_at}
+use Rattle.tree_encode.specs.TreeIds.{behind, behind_all}
+use Rattle.tree_encode.proofs.Behinds.{behind_at, behind_is}
 
 -- ---- a path that goes on
 
@@ -63,7 +63,7 @@ away_itself path names h = none_from (behind_all names path) (λ x e.
     let clash : Some (x ++ 47 ∷ []) ≡ None = sym (longer names path x (47 ∷ []) e) ∙ h [] in
     absurd cc)
 
--- so is what the path lies in
+-- so is each directory that the path is in
 away_above : (path above x : List ℕ) (names : List (List ℕ)) → IsAway path names → path ≡ above ++ 47 ∷ x
     → behind_all names above ≡ None
 away_above path above x names h e = none_from (behind_all names above) (λ y f.
@@ -98,7 +98,7 @@ module _ (names : List (List ℕ)) (path : List ℕ) (h : IsAway path names) whe
   at_odds r new e (inl t) = in_path r (ap (λ (p : List ℕ). is_below p r) (sym e) ∙ t)
   at_odds r new e (inr t) = over_path r new e t
 
-  displaced_away : (r new : Record) → new.path ≡ path → (is_succeeded new r ≡ true) ⊎ (are_at_odds new r ≡ true)
+  displaced_away : (r new : Record) → new.path ≡ path → (is_succeeded new r ≡ true) ⊎ (have_df_conflict new r ≡ true)
       → behind_all names r.path ≡ None
   displaced_away r new e (inl t) = at_path r (ap (λ (p : List ℕ). is_at p r) (sym e)
       ∙ (and_both (is_at new.path r) ((record_stage new == 0) || (record_stage r == record_stage new)) t).0)
@@ -106,9 +106,9 @@ module _ (names : List (List ℕ)) (path : List ℕ) (h : IsAway path names) whe
       (and_both (record_stage r == record_stage new) (is_below new.path r || is_below r.path new) t).1)
 
 -- it isn't below a directory away from the path
-pub taken_away : (c : Change) (r : Record) (names : List (List ℕ)) → IsAway (path_of c) names → takes_out c r ≡ true
+pub taken_away : (c : Change) (r : Record) (names : List (List ℕ)) → IsAway (change_path c) names → takes_out c r ≡ true
     → behind_all names r.path ≡ None
 taken_away (changes.Stage entry path) r names h t =
     let new = with_path path.now entry in
-    displaced_away names path.now h r new refl (or_cases (is_succeeded new r) (are_at_odds new r) t)
+    displaced_away names path.now h r new refl (or_cases (is_succeeded new r) (have_df_conflict new r) t)
 taken_away (changes.Unstage path) r names h t = at_path names path.now h r t

@@ -9,14 +9,14 @@ use Rattle.std.proofs.lemmas.List.Sums.{count_by-le-length, length-filter}
 use Rattle.std.proofs.lemmas.Option.{same_Some}
 use Rattle.index_parts.specs.declared.hash.Kind.{Kind}
 use Rattle.index_parts.specs.declared.hash.ObjectId.{ObjectId}
-use Rattle.index_cached_tree.specs.Sound.{CountAtMost, CountsAtMost}
-use Rattle.index_cached_tree.specs.Tree.{Node, Nodes, node, none, more, name_of}
-use Rattle.index_entries.specs.Record.{Record}
-use Rattle.index_tree_writer.specs.Directory.{leaf_count}
-use Rattle.index_tree_writer.specs.Staged.{Staged, is_unmerged, merged_in, staged_entry, staged_in}
-use Rattle.index_tree_writer.specs.TreeIds.{AreRight, Gives, GivesId, IsRight, Spot, behind_all, moved, spots}
-use Rattle.index_tree_writer.specs.TreeIds.{spots_below}
-use Rattle.index_tree_writer.specs.TreeIds.{staged_at}
+use Rattle.ext_tree.specs.Sound.{CountAtMost, CountsAtMost}
+use Rattle.ext_tree.specs.Tree.{Node, Nodes, node, none, more, node_name}
+use Rattle.entry_list.specs.Record.{Record}
+use Rattle.tree_encode.specs.Directory.{leaf_count}
+use Rattle.tree_encode.specs.Staged.{Staged, is_unmerged, merged_in, staged_entry, staged_in}
+use Rattle.tree_encode.specs.TreeIds.{AreRight, GivesTreeId, GivesId, IsRight, Spot, behind_all, moved, spots}
+use Rattle.tree_encode.specs.TreeIds.{spots_below}
+use Rattle.tree_encode.specs.TreeIds.{staged_at}
 use Rattle.index_edit_laws.proofs.Parts.{All-back, All-front}
 
 some_at_most : {X Y : Type 0} (h : X → Option Y) (xs : List X) → length (filter_map h xs) ≤ length xs
@@ -53,12 +53,12 @@ given_count kind staged names id count (inl m) = leaves_counted (staged_at names
 given_count kind staged names id count (inr w) = w.1 ∙ sym (ap length w.0)
 
 given_within : (kind : Kind) (rs : List Record) (names : List (List ℕ)) (id : ObjectId) (count : ℕ)
-    → Gives kind rs names id count → count ≤ length rs
+    → GivesTreeId kind rs names id count → count ≤ length rs
 given_within kind rs names id count g =
     omega (arith, given_count kind (staged_in (merged_in rs)) names id count g.1, seen_at_most names rs)
 
 right_within : (kind : Kind) (rs : List Record) (names : List (List ℕ)) (id : ObjectId) (o : Option ℕ)
-    → IfSome o (λ count. Gives kind rs names id count) → IfSome o (λ count. count ≤ length rs)
+    → IfSome o (λ count. GivesTreeId kind rs names id count) → IfSome o (λ count. count ≤ length rs)
 right_within kind rs names id None h = tt
 right_within kind rs names id (Some count) h = given_within kind rs names id count h
 
@@ -76,8 +76,8 @@ module _ (kind : Kind) (rs : List Record) where
         → CountAtMost (length rs) ts
     nodes_within names none h = tt
     nodes_within names (more t ts) h =
-        let here = spots (names ++ name_of t ∷ []) t in (
-          node_within (names ++ name_of t ∷ []) t (All-front (IsRight kind rs) here (spots_below names ts) h),
+        let here = spots (names ++ node_name t ∷ []) t in (
+          node_within (names ++ node_name t ∷ []) t (All-front (IsRight kind rs) here (spots_below names ts) h),
           nodes_within names ts (All-back (IsRight kind rs) here (spots_below names ts) h),
         )
 

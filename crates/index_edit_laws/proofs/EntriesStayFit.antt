@@ -1,20 +1,20 @@
--- Entries that have trees still have them behind changes.
+-- Entries that have trees still have them after changes.
 use Rattle.std.proofs.Common.{◌≡◌, ℕ, false, List, [], ◌∷◌, All, None, refl}
 use Rattle.std.proofs.lemmas.List.Elements.{All-head, All-tail, All-weaker}
 use Rattle.index_parts.specs.declared.hash.Kind.{Kind}
-use Rattle.index_objects.specs.NameCheck.{refusal_as}
-use Rattle.index_objects.specs.declared.object.tree.EntryKind.{EntryKind}
-use Rattle.index_objects.specs.declared.object.tree.EntryKind.TheVariants as kinds
-use Rattle.index_entries.specs.Order.{IsStrictlyOrdered}
-use Rattle.index_entries.specs.Record.{Record}
-use Rattle.index_edits.specs.Changes.{applied, applied_one, path_of}
-use Rattle.index_edits.specs.Refusals.{Check}
-use Rattle.index_edits.specs.Wholes.{lies_in_whole}
-use Rattle.index_edits.specs.declared.change.Change.{Change}
-use Rattle.index_edits.proofs.Swaps.{one_ordered}
-use Rattle.index_tree_writer.specs.Refusals.{AreFit}
-use Rattle.index_tree_writer.specs.Staged.{merged_in}
-use Rattle.index_tree_writer.specs.TreeIds.{any_name}
+use Rattle.base_objects.specs.NameCheck.{refusal_as}
+use Rattle.base_objects.specs.declared.object.tree.EntryKind.{EntryKind}
+use Rattle.base_objects.specs.declared.object.tree.EntryKind.TheVariants as kinds
+use Rattle.entry_list.specs.Order.{IsStrictlyOrdered}
+use Rattle.entry_list.specs.Record.{Record}
+use Rattle.entry_edit.specs.Changes.{applied, applied_one, change_path}
+use Rattle.entry_edit.specs.Refusals.{Check}
+use Rattle.entry_edit.specs.Wholes.{lies_in_whole}
+use Rattle.entry_edit.specs.declared.change.Change.{Change}
+use Rattle.entry_edit.proofs.Swaps.{one_ordered}
+use Rattle.tree_encode.specs.Refusals.{AreFit}
+use Rattle.tree_encode.specs.Staged.{merged_in}
+use Rattle.tree_encode.specs.TreeIds.{any_name}
 use Rattle.index_edit_laws.proofs.ApartEntries.{apart_then, outside_then}
 use Rattle.index_edit_laws.proofs.FitEntries.{each_fit}
 use Rattle.index_edit_laws.proofs.WholeDirectories.{all_outside}
@@ -28,17 +28,17 @@ entries_ordered (c ∷ cs) rs o = entries_ordered cs (applied_one c rs) (one_ord
 module _ (check pass : Check) (kind : Kind)
     (weaker : (name : List ℕ) (j : EntryKind) → refusal_as check name j ≡ None → refusal_as pass name j ≡ None) where
   stay_fit : (cs : List Change) (rs : List Record) → All (StagesFaultless check kind) cs
-      → All (λ c. lies_in_whole (path_of c) rs ≡ false) cs → AreFit pass kind (merged_in rs)
+      → All (λ c. lies_in_whole (change_path c) rs ≡ false) cs → AreFit pass kind (merged_in rs)
       → AreFit pass kind (merged_in (applied cs rs))
   unfolding applied
   stay_fit [] rs s o a = a
   stay_fit (c ∷ cs) rs s o a =
       let Q = StagesFaultless check kind in
-      let Out = λ (d : Change). lies_in_whole (path_of d) rs ≡ false in
+      let Out = λ (d : Change). lies_in_whole (change_path d) rs ≡ false in
       let now = applied_one c rs in
       let f = All-head Q c cs s in
       stay_fit cs now (All-tail Q c cs s)
-      (All-weaker Out (λ d. lies_in_whole (path_of d) now ≡ false) (λ d h. outside_then check pass kind c rs f (path_of d) h)
+      (All-weaker Out (λ d. lies_in_whole (change_path d) now ≡ false) (λ d h. outside_then check pass kind c rs f (change_path d) h)
       cs (All-tail Out c cs o)) (record {
         each = each_fit check pass kind weaker c rs f a;
         apart = apart_then check pass kind c rs f (All-head Out c cs o) a;

@@ -1,4 +1,4 @@
--- The first name of a path: what is in front of its first slash, or all of it.
+-- The first name of a path: the bytes before its first slash, or all of it.
 use Rattle.std.proofs.Common.{◌≡◌, ℕ, suc, ◌+◌, ◌≤◌, ◌==◌, List, ◌∷◌, ◌++◌, Bool, true, false, cond, ltb}
 use Rattle.std.proofs.Common.{take, drop, length}
 use Rattle.std.proofs.Common.{Some, None, get_or, refl, sym, ap, subst, ◌∙◌, append_assoc, arith}
@@ -16,13 +16,14 @@ use Rattle.std.proofs.lemmas.List.{get_or-take, take-append-drop}
 use Rattle.std.proofs.lemmas.List.Quantifiers.{position-Some}
 use Rattle.std.proofs.lemmas.List.Sums.{fails_before_first}
 use Rattle.std.proofs.Math.Seq.{drop-cons}
-use Rattle.index_cached_tree.specs.Tree.{Node, name_of}
-use Rattle.index_invalidation.specs.Invalidation.{is_named, slash_of}
-use Rattle.index_tree_writer.specs.TreeIds.{behind}
-use Rattle.index_tree_writer.proofs.Behinds.{behind_at}
-use Rattle.index_tree_writer.proofs.PathNames.{NoSlash, first_slash}
+use Rattle.ext_tree.specs.Tree.{Node, node_name}
+use Rattle.ext_invalidate.specs.Invalidation.{is_node_named}
+use Rattle.index_parts.specs.Path.{slash_of}
+use Rattle.tree_encode.specs.TreeIds.{behind}
+use Rattle.tree_encode.proofs.Behinds.{behind_at}
+use Rattle.tree_encode.proofs.PathNames.{NoSlash, first_slash}
 
--- no other name is in front of a slash, wherever the path goes on behind one
+-- no other name is before a slash, however the path continues after one
 pub record IsFirstName (path first : List ℕ) : Type 0 where
   pub alone : (name x y : List ℕ) → NoSlash name → path ++ 47 ∷ x ≡ name ++ 47 ∷ y → first ≡ name
 
@@ -80,17 +81,17 @@ first_name path k s =
 
 -- ---- the node that has it
 
-pub named_so : (name : List ℕ) (t : Node) → is_named name t ≡ true → name_of t ≡ name
-named_so name t h = by (slice_cmp nat_cmp (name_of t) name) refl h
+pub named_so : (name : List ℕ) (t : Node) → is_node_named name t ≡ true → node_name t ≡ name
+named_so name t h = by (slice_cmp nat_cmp (node_name t) name) refl h
   where
-    by : (o : Ordering) → slice_cmp nat_cmp (name_of t) name ≡ o → is_eq o ≡ true → name_of t ≡ name
+    by : (o : Ordering) → slice_cmp nat_cmp (node_name t) name ≡ o → is_eq o ≡ true → node_name t ≡ name
     by Less e k = absurd cc
-    by Equal e k = exact_bytes (name_of t) name e
+    by Equal e k = exact_bytes (node_name t) name e
     by Greater e k = absurd cc
 
-pub other_name : (name : List ℕ) (t : Node) → is_named name t ≡ false → name ≢ name_of t
+pub other_name : (name : List ℕ) (t : Node) → is_node_named name t ≡ false → name ≢ node_name t
 other_name name t h e =
-    let tie : is_named name t ≡ true =
-    ap is_eq (ap (slice_cmp nat_cmp (name_of t)) e ∙ tied_itself nat_list_cmp_total (name_of t)) in
+    let tie : is_node_named name t ≡ true =
+    ap is_eq (ap (slice_cmp nat_cmp (node_name t)) e ∙ tied_itself nat_list_cmp_total (node_name t)) in
     let clash : true ≡ false = sym tie ∙ h in
     absurd cc

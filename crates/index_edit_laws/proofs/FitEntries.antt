@@ -1,4 +1,4 @@
--- Entries that have trees still have them behind changes.
+-- Entries that have trees still have them after changes.
 use Rattle.std.proofs.Common.{◌≡◌, inl, inr, ℕ, ◌==◌, List, All, Bool, true, false, cond}
 use Rattle.std.proofs.Common.{◌&&◌, not, length, get_or, Option, Some, None, refl, sym, ap, subst, ◌∙◌}
 use Rattle.std.proofs.Common.{arith}
@@ -12,25 +12,25 @@ use Rattle.std.proofs.lemmas.List.Sums.{fails_before_first}
 use Rattle.index_parts.specs.Id.{id_bytes, id_kind, id_len, is_null}
 use Rattle.index_parts.specs.declared.hash.Kind.{Kind}
 use Rattle.index_parts.specs.declared.hash.Kind.TheVariants as hashes
-use Rattle.index_objects.specs.Mode.{named_kind}
-use Rattle.index_objects.specs.NameCheck.{refusal_as}
-use Rattle.index_objects.specs.declared.object.tree.EntryKind.{EntryKind}
-use Rattle.index_objects.specs.declared.object.tree.EntryKind.TheVariants as kinds
-use Rattle.index_entries.specs.EntryImage.{is_removed}
-use Rattle.index_entries.specs.Record.{Record, with_path}
-use Rattle.index_entries.specs.declared.Pathless.{Pathless}
-use Rattle.index_metadata.specs.Flags.{stage_number}
-use Rattle.index_edits.specs.Changes.{applied_one}
-use Rattle.index_edits.specs.Refusals.{Check, fault_as, fault_of, id_fault, kind_fault, names_fault, names_of, path_fault}
-use Rattle.index_edits.specs.declared.change.Change.{Change}
-use Rattle.index_edits.specs.declared.change.Change.TheVariants as changes
-use Rattle.index_edits.specs.declared.error.Error.{Error}
-use Rattle.index_edits.specs.declared.error.Error.TheVariants as errors
-use Rattle.index_edits.proofs.Stagings.{contains_filter}
-use Rattle.index_edits.proofs.Whys.{neither}
-use Rattle.index_edits.proofs.Swaps.{CameFrom, IsNew, came_from}
-use Rattle.index_tree_writer.specs.Refusals.{AreFit, IsFit}
-use Rattle.index_tree_writer.specs.Staged.{is_unmerged, merged_in}
+use Rattle.base_objects.specs.Mode.{named_kind}
+use Rattle.base_objects.specs.NameCheck.{refusal_as}
+use Rattle.base_objects.specs.declared.object.tree.EntryKind.{EntryKind}
+use Rattle.base_objects.specs.declared.object.tree.EntryKind.TheVariants as kinds
+use Rattle.entry_list.specs.EntryImage.{is_removed}
+use Rattle.entry_list.specs.Record.{Record, with_path}
+use Rattle.entry_list.specs.declared.Pathless.{Pathless}
+use Rattle.entry_fields.specs.Flags.{stage_number}
+use Rattle.entry_edit.specs.Changes.{applied_one}
+use Rattle.entry_edit.specs.Refusals.{Check, fault_as, staged_entry_fault, id_fault, kind_fault, names_fault, names_of, path_fault}
+use Rattle.entry_edit.specs.declared.change.Change.{Change}
+use Rattle.entry_edit.specs.declared.change.Change.TheVariants as changes
+use Rattle.entry_edit.specs.declared.error.Error.{Error}
+use Rattle.entry_edit.specs.declared.error.Error.TheVariants as errors
+use Rattle.entry_edit.proofs.Stagings.{contains_filter}
+use Rattle.entry_edit.proofs.Whys.{neither}
+use Rattle.entry_edit.proofs.Swaps.{CameFrom, IsNew, came_from}
+use Rattle.tree_encode.specs.Refusals.{AreFit, IsTreeRecord}
+use Rattle.tree_encode.specs.Staged.{is_unmerged, merged_in}
 use Rattle.index_edit_laws.proofs.FirstNames.{nowhere}
 use Rattle.index_edit_laws.proofs.MadeOfNames.{file_made, not_some}
 use Rattle.index_edit_laws.specs.Faultless.{IsFaultless, StagesFaultless}
@@ -92,7 +92,7 @@ module _ (check pass : Check) (kind : Kind)
   of_named : (entry : Pathless) (path : List ℕ) → ((length path == 0) ≡ false) × All (λ b. b ≢ 0) path
       → IsFaultless check kind entry path → is_unmerged entry.flags.0 ≡ false → (k : EntryKind) → k ≢ kinds.Tree
       → named_kind entry.mode.0 ≡ Some k → option_or (id_fault kind entry.id) (names_fault check k (names_of path)) ≡ None
-      → IsFit pass kind (with_path path entry)
+      → IsTreeRecord pass kind (with_path path entry)
   of_named entry path p f u k file e h = λ present.
       let n = neither (id_fault kind entry.id) (names_fault check k (names_of path)) h in
       let i = neither (kind_fault kind (id_kind entry.id))
@@ -107,7 +107,8 @@ module _ (check pass : Check) (kind : Kind)
 
   of_mode : (entry : Pathless) (path : List ℕ) → ((length path == 0) ≡ false) × All (λ b. b ≢ 0) path
       → IsFaultless check kind entry path → is_unmerged entry.flags.0 ≡ false → (o : Option EntryKind)
-      → named_kind entry.mode.0 ≡ o → fault_as check kind entry path o ≡ None → IsFit pass kind (with_path path entry)
+      → named_kind entry.mode.0 ≡ o → fault_as check kind entry path o ≡ None
+      → IsTreeRecord pass kind (with_path path entry)
   of_mode entry path p f u None e h = absurd cc
   of_mode entry path p f u (Some kinds.Tree) e h = absurd cc
   of_mode entry path p f u (Some kinds.Blob) e h = of_named entry path p f u kinds.Blob (λ z. absurd cc) e h
@@ -117,26 +118,26 @@ module _ (check pass : Check) (kind : Kind)
   of_mode entry path p f u (Some kinds.Commit) e h = of_named entry path p f u kinds.Commit (λ z. absurd cc) e h
 
   staged_fit : (entry : Pathless) (path : List ℕ) → IsFaultless check kind entry path
-      → is_unmerged entry.flags.0 ≡ false → IsFit pass kind (with_path path entry)
-  unfolding fault_of
+      → is_unmerged entry.flags.0 ≡ false → IsTreeRecord pass kind (with_path path entry)
+  unfolding staged_entry_fault
   staged_fit entry path f u =
       let n = neither (path_fault path) (fault_as check kind entry path (named_kind entry.mode.0)) f.granted in
       of_mode entry path (sound_path path n.0) f u (named_kind entry.mode.0) refl n.1
 
   new_fit : (c : Change) (r : Record) → StagesFaultless check kind c → IsNew c r → is_unmerged r.flags ≡ false
-      → IsFit pass kind r
-  new_fit (changes.Stage entry path) r f n u = subst (IsFit pass kind) (sym n)
+      → IsTreeRecord pass kind r
+  new_fit (changes.Stage entry path) r f n u = subst (IsTreeRecord pass kind) (sym n)
       (staged_fit entry path.now f (ap (λ (q : Record). is_unmerged q.flags) (sym n) ∙ u))
   new_fit (changes.Unstage path) r f n u = absurd n
 
   -- ---- each record
   module _ (c : Change) (rs : List Record) (f : StagesFaultless check kind c) where
     from_fit : (r : Record) → is_unmerged r.flags ≡ false → AreFit pass kind (merged_in rs) → CameFrom c rs r
-        → IsFit pass kind r
+        → IsTreeRecord pass kind r
     from_fit r u a (inl n) = new_fit c r f n u
-    from_fit r u a (inr p) = All-contains (IsFit pass kind) (merged_in rs) r a.each (merged_of rs r p.0 u)
+    from_fit r u a (inr p) = All-contains (IsTreeRecord pass kind) (merged_in rs) r a.each (merged_of rs r p.0 u)
 
-    pub each_fit : AreFit pass kind (merged_in rs) → All (IsFit pass kind) (merged_in (applied_one c rs))
+    pub each_fit : AreFit pass kind (merged_in rs) → All (IsTreeRecord pass kind) (merged_in (applied_one c rs))
     each_fit a k d within =
         let now = applied_one c rs in
         let r = get_or (merged_in now) k d in

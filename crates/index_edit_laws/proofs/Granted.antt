@@ -3,17 +3,17 @@ use Rattle.std.proofs.Common.{◌≡◌, ℕ, ◌+◌, List, [], ◌∷◌, All,
 use Rattle.std.specs.Option.{option_map}
 use Rattle.std.proofs.lemmas.List.Elements.{All-cons, All-head, All-nil, All-tail}
 use Rattle.index_parts.specs.declared.hash.Kind.{Kind}
-use Rattle.index_entries.specs.Record.{Record}
-use Rattle.index_edits.specs.Changes.{added_len, change_fault, refusal_from, refusal_of, room_fault}
-use Rattle.index_edits.specs.Refusals.{Check, fault_of}
-use Rattle.index_edits.specs.Wholes.{first_in_whole, refusal_among, whole_refusal}
-use Rattle.index_edits.specs.declared.change.ApplyError.TheVariants.{Refused}
-use Rattle.index_edits.specs.declared.change.Change.{Change}
-use Rattle.index_edits.specs.declared.change.Change.TheVariants as changes
-use Rattle.index_edits.specs.declared.error.Error.{Error}
-use Rattle.index_edits.specs.declared.error.Error.TheVariants as errors
-use Rattle.index_updates.specs.StillStorable.{StagesSized}
-use Rattle.index_edits.proofs.Whys.{neither}
+use Rattle.entry_list.specs.Record.{Record}
+use Rattle.entry_edit.specs.Changes.{added_len, change_fault, refusal_from, first_rejection, room_fault}
+use Rattle.entry_edit.specs.Refusals.{Check, staged_entry_fault}
+use Rattle.entry_edit.specs.Wholes.{first_in_whole, refusal_among, whole_refusal}
+use Rattle.entry_edit.specs.declared.change.ApplyError.TheVariants.{Refused}
+use Rattle.entry_edit.specs.declared.change.Change.{Change}
+use Rattle.entry_edit.specs.declared.change.Change.TheVariants as changes
+use Rattle.entry_edit.specs.declared.error.Error.{Error}
+use Rattle.entry_edit.specs.declared.error.Error.TheVariants as errors
+use Rattle.index_edit.specs.StillStorable.{StagesSized}
+use Rattle.entry_edit.proofs.Whys.{neither}
 use Rattle.index_edit_laws.proofs.MadeOfNames.{not_some}
 use Rattle.index_edit_laws.specs.Faultless.{AreFaultless, StagesFaultless, StagesShallow}
 
@@ -21,7 +21,7 @@ module _ (check : Check) (kind : Kind) where
   granted_one : (len : ℕ) (c : Change) → change_fault check kind len c ≡ None → StagesSized c → StagesShallow c
       → StagesFaultless check kind c
   granted_one len (changes.Stage entry path) h s d = record {
-    granted = (neither (fault_of check kind entry path.now) (room_fault len path.now) h).0;
+    granted = (neither (staged_entry_fault check kind entry path.now) (room_fault len path.now) h).0;
     shallow = d;
     sized = s.id;
   }
@@ -40,10 +40,10 @@ module _ (check : Check) (kind : Kind) where
       (granted_from (len + added_len c) (at + 1) cs n.1 (All-tail StagesSized c cs s) (All-tail StagesShallow c cs d))
 
 pub granted : (check : Check) (kind : Kind) (len : ℕ) (cs : List Change) (rs : List Record)
-    → refusal_among (refusal_of check kind len cs) cs rs ≡ None → All StagesSized cs → All StagesShallow cs
+    → refusal_among (first_rejection check kind len cs) cs rs ≡ None → All StagesSized cs → All StagesShallow cs
     → AreFaultless check kind cs rs
 granted check kind len cs rs h s d =
-    let n = neither (refusal_of check kind len cs) (whole_refusal (first_in_whole cs rs)) h in
+    let n = neither (first_rejection check kind len cs) (whole_refusal (first_in_whole cs rs)) h in
     record {
       each = granted_from check kind len 0 cs n.0 s d;
       outside = not_some (λ at. Refused at errors.InWholeDirectory) (first_in_whole cs rs) n.1;

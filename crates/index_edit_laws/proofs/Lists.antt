@@ -7,21 +7,21 @@ use Rattle.std.proofs.lemmas.List.{take-append-drop}
 use Rattle.std.proofs.lemmas.List.Elements.{All-contains, All-contains_itself, All-filter, filter-append}
 use Rattle.std.proofs.lemmas.List.Elements.{filter_map-append}
 use Rattle.std.proofs.lemmas.List.Elements.{filter_passes}
-use Rattle.index_entries.specs.EntryImage.{is_removed}
-use Rattle.index_entries.specs.Order.{record_stage}
-use Rattle.index_entries.specs.Record.{Record, with_path}
-use Rattle.index_objects.specs.Mode.{named_kind}
-use Rattle.index_objects.specs.declared.object.tree.EntryKind.{EntryKind}
-use Rattle.index_lookups.specs.Lookup.{insertion_of}
-use Rattle.index_lookups.specs.Range.{is_at}
-use Rattle.index_edits.specs.Changes.{applied_one, path_of}
-use Rattle.index_edits.specs.Edits.{is_displaced, staged, unstaged}
-use Rattle.index_edits.specs.declared.change.Change.{Change}
-use Rattle.index_edits.specs.declared.change.Change.TheVariants as changes
-use Rattle.index_edits.proofs.Stagings.{contains_filter}
-use Rattle.index_edits.proofs.Swaps.{CameFrom, IsNew, came_from}
-use Rattle.index_tree_writer.specs.Staged.{Staged, is_unmerged, merged_in, staged_in, staged_entry, unmerged_in}
-use Rattle.index_tree_writer.specs.TreeIds.{IsMergedAt, behind_all, moved, staged_at}
+use Rattle.entry_list.specs.EntryImage.{is_removed}
+use Rattle.entry_list.specs.Order.{record_stage}
+use Rattle.entry_list.specs.Record.{Record, with_path}
+use Rattle.base_objects.specs.Mode.{named_kind}
+use Rattle.base_objects.specs.declared.object.tree.EntryKind.{EntryKind}
+use Rattle.entry_lookup.specs.Lookup.{insertion_of}
+use Rattle.entry_lookup.specs.Range.{is_at}
+use Rattle.entry_edit.specs.Changes.{applied_one, change_path}
+use Rattle.entry_edit.specs.Edits.{is_displaced, staged, unstaged}
+use Rattle.entry_edit.specs.declared.change.Change.{Change}
+use Rattle.entry_edit.specs.declared.change.Change.TheVariants as changes
+use Rattle.entry_edit.proofs.Stagings.{contains_filter}
+use Rattle.entry_edit.proofs.Swaps.{CameFrom, IsNew, came_from}
+use Rattle.tree_encode.specs.Staged.{Staged, is_unmerged, merged_in, staged_in, staged_entry, unmerged_in}
+use Rattle.tree_encode.specs.TreeIds.{IsMergedAt, behind_all, moved, staged_at}
 use Rattle.index_edit_laws.proofs.Aways.{IsAway, away_itself, taken_away}
 
 -- what merged records stage below the directory that these names lead to
@@ -71,7 +71,7 @@ not_false false e = cc
 
 module _ (names : List (List ℕ)) where
   -- what a change takes out and puts in isn't below a directory away from its path
-  pub seen_stays : (c : Change) (rs : List Record) → IsAway (path_of c) names
+  pub seen_stays : (c : Change) (rs : List Record) → IsAway (change_path c) names
       → seen_at names (applied_one c rs) ≡ seen_at names rs
   unfolding staged unstaged
   seen_stays (changes.Stage entry path) rs h =
@@ -90,18 +90,18 @@ module _ (names : List (List ℕ)) where
 
   -- ---- records in conflict
 
-  new_path : (c : Change) (r : Record) → IsNew c r → r.path ≡ path_of c
+  new_path : (c : Change) (r : Record) → IsNew c r → r.path ≡ change_path c
   new_path (changes.Stage entry path) r e = ap (λ (q : Record). q.path) e
   new_path (changes.Unstage path) r e = absurd e
 
-  came_away : (c : Change) (rs : List Record) (r : Record) → IsAway (path_of c) names → IsMergedAt rs names
+  came_away : (c : Change) (rs : List Record) (r : Record) → IsAway (change_path c) names → IsMergedAt rs names
       → is_unmerged r.flags ≡ true → CameFrom c rs r → behind_all names r.path ≡ None
-  came_away c rs r h m u (inl n) = ap (behind_all names) (new_path c r n) ∙ away_itself (path_of c) names h
+  came_away c rs r h m u (inl n) = ap (behind_all names) (new_path c r n) ∙ away_itself (change_path c) names h
   came_away c rs r h m u (inr p) =
       let there = contains_filter (λ q. is_unmerged q.flags) rs r p.0.0 p.0.1 p.0.2 u in
       All-contains (λ q. behind_all names q.path ≡ None) (unmerged_in rs) r m there
 
-  pub merged_stays : (c : Change) (rs : List Record) → IsAway (path_of c) names → IsMergedAt rs names
+  pub merged_stays : (c : Change) (rs : List Record) → IsAway (change_path c) names → IsMergedAt rs names
       → IsMergedAt (applied_one c rs) names
   merged_stays c rs h m k d within =
       let now = applied_one c rs in

@@ -11,17 +11,17 @@ use Rattle.std.proofs.lemmas.List.{append-nil, get_or-take}
 use Rattle.std.proofs.lemmas.List.Elements.{All-drop, All-take}
 use Rattle.std.proofs.lemmas.List.Quantifiers.{position-Some}
 use Rattle.std.proofs.lemmas.List.Sums.{fails_before_first, sum_by-append, sum_by-cons}
-use Rattle.index_objects.specs.NameCheck.{refusal_as}
-use Rattle.index_objects.specs.declared.object.tree.EntryKind.{EntryKind}
-use Rattle.index_objects.specs.declared.object.tree.EntryKind.TheVariants as kinds
-use Rattle.index_edits.specs.Refusals.{Check, name_fault, names_fault, names_of}
-use Rattle.index_edits.specs.declared.error.Error.TheVariants as errors
-use Rattle.index_edits.proofs.Names.{first_name, last_name}
-use Rattle.index_edits.proofs.Whys.{neither}
-use Rattle.index_invalidation.specs.Invalidation.{slash_of}
-use Rattle.index_tree_writer.specs.Directory.{IsName}
-use Rattle.index_tree_writer.specs.Refusals.{IsTreePath, of_file, beneath}
-use Rattle.index_tree_writer.proofs.PathNames.{NoSlash}
+use Rattle.base_objects.specs.NameCheck.{refusal_as}
+use Rattle.base_objects.specs.declared.object.tree.EntryKind.{EntryKind}
+use Rattle.base_objects.specs.declared.object.tree.EntryKind.TheVariants as kinds
+use Rattle.entry_edit.specs.Refusals.{Check, name_fault, names_fault, names_of}
+use Rattle.entry_edit.specs.declared.error.Error.TheVariants as errors
+use Rattle.entry_edit.proofs.Names.{first_name, last_name}
+use Rattle.entry_edit.proofs.Whys.{neither}
+use Rattle.index_parts.specs.Path.{slash_of}
+use Rattle.tree_encode.specs.Directory.{IsPathComponent}
+use Rattle.tree_encode.specs.Refusals.{IsTreePath, of_file, beneath}
+use Rattle.tree_encode.proofs.PathNames.{NoSlash}
 use Rattle.index_edit_laws.proofs.FirstNames.{front_no_slash, no_slash, nowhere, split_at}
 
 pub not_some : {X Y : Type 0} (f : X → Y) (o : Option X) → option_map f o ≡ None → o ≡ None
@@ -56,7 +56,7 @@ none_slash path s k d within =
 
 -- a name that a check lets pass
 abbrev Passes : Check → List ℕ → EntryKind → Type 0
-Passes check name k = IsName name × (refusal_as check name k ≡ None)
+Passes check name k = IsPathComponent name × (refusal_as check name k ≡ None)
 
 some_bytes : (name : List ℕ) → (length name == 0) ≡ false → name ≢ []
 some_bytes name e z = let clash : true ≡ false = sym (ap (λ (l : List ℕ). length l == 0) z) ∙ e in absurd cc
@@ -76,7 +76,7 @@ module _ (check pass : Check) (k : EntryKind)
         weaker name j (not_some (λ number. errors.Name number) (refusal_as check name j) g),
       )
 
-  -- ---- names, one after another, and what stands behind the last of them
+  -- ---- names, one after another, and what follows the last of them
 
   module _ (more : ℕ) (tail : List ℕ)
       (last : (levels : ℕ) (name : List ℕ) → Passes pass name k
@@ -98,7 +98,7 @@ module _ (check pass : Check) (k : EntryKind)
     lone levels path a h s = last levels path (name_passes path k a (no_slash path s)
         (sym (last_name check k path (none_slash path s)) ∙ h))
 
-    -- what is in front of the first slash passes, and nothing is wrong with the names behind it
+    -- what is before the first slash passes, and the names after it are valid
     front_passes : (path : List ℕ) (at : ℕ) → All (λ b. b ≢ 0) path → names_fault check k (names_of path) ≡ None
         → slash_of path ≡ Some at
         → Passes pass (take at path) kinds.Tree × (names_fault check k (names_of (drop (at + 1) path)) ≡ None)

@@ -1,16 +1,16 @@
--- How many merged entries there are behind changes.
+-- The number of merged entries after changes.
 use Rattle.std.proofs.Common.{ℕ, ◌+◌, ◌≤◌, List, [], ◌∷◌, Bool, true, false, cond, filter, length, not, arith}
 use Rattle.std.specs.Prelude.{count_by}
 use Rattle.std.proofs.lemmas.List.Sums.{length-filter, sum_by-cons, sum_by-insert}
-use Rattle.index_entries.specs.Order.{record_stage}
-use Rattle.index_entries.specs.Record.{Record, with_path}
-use Rattle.index_lookups.specs.Lookup.{insertion_of}
-use Rattle.index_lookups.specs.Range.{is_at}
-use Rattle.index_edits.specs.Changes.{applied, applied_one}
-use Rattle.index_edits.specs.Edits.{is_displaced, staged, unstaged}
-use Rattle.index_edits.specs.declared.change.Change.{Change}
-use Rattle.index_edits.specs.declared.change.Change.TheVariants as changes
-use Rattle.index_tree_writer.specs.Staged.{is_unmerged, merged_in}
+use Rattle.entry_list.specs.Order.{record_stage}
+use Rattle.entry_list.specs.Record.{Record, with_path}
+use Rattle.entry_lookup.specs.Lookup.{insertion_of}
+use Rattle.entry_lookup.specs.Range.{is_at}
+use Rattle.entry_edit.specs.Changes.{applied, applied_one}
+use Rattle.entry_edit.specs.Edits.{is_displaced, staged, unstaged}
+use Rattle.entry_edit.specs.declared.change.Change.{Change}
+use Rattle.entry_edit.specs.declared.change.Change.TheVariants as changes
+use Rattle.tree_encode.specs.Staged.{is_unmerged, merged_in}
 
 abbrev one : (Record → Bool) → Record → ℕ
 one p r = cond (p r) 1 0

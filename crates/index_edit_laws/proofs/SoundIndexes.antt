@@ -1,20 +1,20 @@
--- What the checks of an index ask of it is true behind changes.
+-- An index that passes its checks still passes them after changes.
 use Rattle.std.proofs.Common.{◌+◌, ◌<◌, ◌^◌, List, Option, Some, None, length, arith}
 use Rattle.std.specs.Prelude.{IfSome}
 use Rattle.std.specs.Option.{option_map}
 use Rattle.index_parts.specs.declared.hash.Kind.{Kind}
-use Rattle.index_cached_tree.specs.Sound.{CountsAtMost, IsSoundTree}
-use Rattle.index_cached_tree.specs.Tree.{Node}
-use Rattle.index_entries.specs.Record.{Record}
-use Rattle.index_edits.specs.Changes.{applied}
-use Rattle.index_edits.specs.Refusals.{Check}
-use Rattle.index_edits.specs.declared.change.Change.{Change}
-use Rattle.index_format.specs.Contents.{Contents}
-use Rattle.index_tree_writer.specs.Refusals.{AreFit}
-use Rattle.index_tree_writer.specs.Staged.{merged_in}
-use Rattle.index_tree_writer.specs.TreeIds.{AreRight, any_name}
-use Rattle.index_updates.specs.Invalidated.{all_invalidated}
-use Rattle.index_updates.specs.Updates.{updated}
+use Rattle.ext_tree.specs.Sound.{CountsAtMost, IsSoundTree}
+use Rattle.ext_tree.specs.Tree.{Node}
+use Rattle.entry_list.specs.Record.{Record}
+use Rattle.entry_edit.specs.Changes.{applied}
+use Rattle.entry_edit.specs.Refusals.{Check}
+use Rattle.entry_edit.specs.declared.change.Change.{Change}
+use Rattle.index_model.specs.Contents.{Contents}
+use Rattle.tree_encode.specs.Refusals.{AreFit}
+use Rattle.tree_encode.specs.Staged.{merged_in}
+use Rattle.tree_encode.specs.TreeIds.{AreRight, any_name}
+use Rattle.index_edit.specs.Invalidated.{all_invalidated}
+use Rattle.index_edit.specs.Updates.{updated}
 use Rattle.index_edit_laws.proofs.Counts.{counts_within}
 use Rattle.index_edit_laws.proofs.EntriesStayFit.{any_fit, entries_ordered}
 use Rattle.index_edit_laws.proofs.MergedCounts.{merged_more}

@@ -1,27 +1,27 @@
--- What changes leave of an untracked cache, and of what a monitor said, can be spelled where that could be before.
+-- An untracked cache and a monitor's answer can be encoded after changes, if they could be before.
 use Rattle.std.proofs.Common.{◌≡◌, ◌^◌, ◌<◌, ◌&&◌, Bool, true, false, List, [], ◌∷◌, Option, Some, None, arith, length, map}
 use Rattle.std.proofs.Common.{nat_lt, refl, subst, sym}
 use Rattle.std.proofs.lemmas.Bool.{ltb-true}
 use Rattle.std.proofs.lemmas.List.{length-map}
 use Rattle.std.specs.Prelude.{IfSome, if◌then◌else◌}
 use Rattle.std.specs.Option.{option_map}
-use Rattle.index_bitmap_writing.proofs.EncodedBits.{bits_spellable, encoded_len, last_len, words_len}
-use Rattle.index_bitmap_writing.proofs.WrittenBitmaps.{bitmap_len}
-use Rattle.index_bitmap_writing.specs.EncodedBitmap.{encoded, up_to_last, words_of}
-use Rattle.index_bitmaps.specs.Bitmap.{Bitmap}
-use Rattle.index_bitmaps.specs.Ranges.{set_places}
-use Rattle.index_edits.specs.declared.change.Change.{Change}
-use Rattle.index_entries.specs.Record.{Record}
-use Rattle.index_extension_writing.specs.MonitorImage.{IsSpellableMonitor}
-use Rattle.index_extension_writing.specs.SpellableCache.{IsSpellableCache}
-use Rattle.index_extension_writing.specs.MonitorPlaces.{monitor_is_within}
-use Rattle.index_monitor.specs.Dirty.{is_dirty, monitor_after}
+use Rattle.ext_bitmap_encode.proofs.EncodedBits.{bits_spellable, encoded_len, last_len, words_len}
+use Rattle.ext_bitmap_encode.proofs.WrittenBitmaps.{bitmap_len}
+use Rattle.ext_bitmap_encode.specs.EncodedBitmap.{encoded, up_to_last, words_of}
+use Rattle.ext_bitmap.specs.Bitmap.{Bitmap}
+use Rattle.ext_bitmap.specs.Ranges.{set_places}
+use Rattle.entry_edit.specs.declared.change.Change.{Change}
+use Rattle.entry_list.specs.Record.{Record}
+use Rattle.ext_encode.specs.MonitorImage.{IsSpellableMonitor}
+use Rattle.ext_encode.specs.SpellableCache.{IsSpellableCache}
+use Rattle.ext_encode.specs.MonitorPlaces.{monitor_is_within}
+use Rattle.index_fsmonitor.specs.Dirty.{is_dirty, monitor_after}
 use Rattle.index_parts.specs.declared.hash.Kind.{Kind}
-use Rattle.index_small_extensions.specs.FsMonitor.{Monitor}
-use Rattle.index_untracked.specs.Untracked.{Cache}
-use Rattle.index_updates.proofs.Invalidations.{cache_stays}
-use Rattle.index_updates.proofs.SpellableCaches.{spellable_stays}
-use Rattle.index_updates.specs.Invalidated.{all_unlisted}
+use Rattle.ext_small.specs.FsMonitor.{Monitor}
+use Rattle.ext_untracked.specs.Untracked.{Cache}
+use Rattle.index_edit.proofs.Invalidations.{cache_stays}
+use Rattle.index_edit.proofs.SpellableCaches.{spellable_stays}
+use Rattle.index_edit.specs.Invalidated.{all_unlisted}
 
 pub cache_spellable : (kind : Kind) (cs : List Change) (cache : Option Cache)
     → IfSome cache (IsSpellableCache kind None) → IfSome (option_map (all_unlisted cs) cache) (IsSpellableCache kind None)

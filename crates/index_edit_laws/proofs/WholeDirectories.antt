@@ -1,24 +1,24 @@
--- Whole directories, and what changes put beside them.
+-- Directories that are one entry, and the entries that changes put next to them.
 use Rattle.std.proofs.Common.{◌≡◌, ℕ, suc, ◌-◌, ◌==◌, Bool, true, false, cond, List, [], ◌∷◌, ◌++◌, length, get_or}
 use Rattle.std.proofs.Common.{Option, Some, None, refl, sym, ap, subst, ◌∙◌, arith, length-append, All}
 use Rattle.std.specs.List.{Contains}
 use Rattle.std.proofs.lemmas.List.Folds.{list_any_at}
 use Rattle.std.proofs.lemmas.List.Sums.{fails_before_first}
 use Rattle.index_parts.specs.declared.hash.Kind.{Kind}
-use Rattle.index_objects.specs.Mode.{commit_mode, directory_mode, executable_mode, file_mode, link_mode, named_kind}
-use Rattle.index_objects.specs.declared.object.tree.EntryKind.{EntryKind}
-use Rattle.index_objects.specs.declared.object.tree.EntryKind.TheVariants as kinds
-use Rattle.index_entries.specs.Record.{Record}
-use Rattle.index_entries.specs.declared.Pathless.{Pathless}
-use Rattle.index_edits.specs.Changes.{path_of}
-use Rattle.index_edits.specs.Refusals.{Check, fault_as, fault_of, path_fault}
-use Rattle.index_edits.specs.Wholes.{first_in_whole, is_around, lies_in_whole}
-use Rattle.index_edits.specs.declared.change.Change.{Change}
-use Rattle.index_edits.specs.declared.change.Change.TheVariants as changes
-use Rattle.index_edits.specs.declared.error.Error.TheVariants as errors
-use Rattle.index_edits.proofs.Whys.{neither}
-use Rattle.index_edits.proofs.Swaps.{IsNew}
-use Rattle.index_tree_writer.specs.Refusals.{IsTreePath, of_file, of_directory, beneath}
+use Rattle.base_objects.specs.Mode.{commit_mode, directory_mode, executable_mode, file_mode, link_mode, named_kind}
+use Rattle.base_objects.specs.declared.object.tree.EntryKind.{EntryKind}
+use Rattle.base_objects.specs.declared.object.tree.EntryKind.TheVariants as kinds
+use Rattle.entry_list.specs.Record.{Record}
+use Rattle.entry_list.specs.declared.Pathless.{Pathless}
+use Rattle.entry_edit.specs.Changes.{change_path}
+use Rattle.entry_edit.specs.Refusals.{Check, fault_as, staged_entry_fault, path_fault}
+use Rattle.entry_edit.specs.Wholes.{first_in_whole, is_around, lies_in_whole}
+use Rattle.entry_edit.specs.declared.change.Change.{Change}
+use Rattle.entry_edit.specs.declared.change.Change.TheVariants as changes
+use Rattle.entry_edit.specs.declared.error.Error.TheVariants as errors
+use Rattle.entry_edit.proofs.Whys.{neither}
+use Rattle.entry_edit.proofs.Swaps.{IsNew}
+use Rattle.tree_encode.specs.Refusals.{IsTreePath, of_file, of_directory, beneath}
 use Rattle.index_edit_laws.proofs.FirstNames.{nowhere}
 use Rattle.index_edit_laws.specs.Faultless.{StagesFaultless}
 
@@ -77,9 +77,10 @@ no_tree check kind entry path o h e =
     let clash : Some errors.WholeDirectory ≡ None = subst (λ x. fault_as check kind entry path x ≡ None) e h in
     absurd cc
 
-never_whole : (check : Check) (kind : Kind) (entry : Pathless) (path : List ℕ) → fault_of check kind entry path ≡ None
+never_whole : (check : Check) (kind : Kind) (entry : Pathless) (path : List ℕ)
+    → staged_entry_fault check kind entry path ≡ None
     → named_kind entry.mode.0 ≡ Some kinds.Tree → ⊥
-unfolding fault_of
+unfolding staged_entry_fault
 never_whole check kind entry path h e =
     no_tree check kind entry path (named_kind entry.mode.0)
     (neither (path_fault path) (fault_as check kind entry path (named_kind entry.mode.0)) h).1 e
@@ -91,7 +92,7 @@ whole_new check kind (changes.Stage entry path) r f n e =
     never_whole check kind entry path.now f.granted (ap (λ (q : Record). named_kind q.mode) (sym n) ∙ e)
 whole_new check kind (changes.Unstage path) r f n e = n
 
--- ---- what lies in none
+-- ---- what is in none
 
 pub not_around : (path : List ℕ) (rs : List Record) → lies_in_whole path rs ≡ false → (r : Record) → Contains rs r
     → is_around path r ≡ true → ⊥
@@ -101,7 +102,7 @@ not_around path rs out r c t =
     cc
 
 pub all_outside : (cs : List Change) (rs : List Record) → first_in_whole cs rs ≡ None
-    → All (λ c. lies_in_whole (path_of c) rs ≡ false) cs
+    → All (λ c. lies_in_whole (change_path c) rs ≡ false) cs
 all_outside cs rs h k d within =
-    let p = λ (c : Change). lies_in_whole (path_of c) rs in
+    let p = λ (c : Change). lies_in_whole (change_path c) rs in
     fails_before_first p cs k d (omega (arith, nowhere p cs h, within))

@@ -1,14 +1,15 @@
--- What the checks of an index ask of it (gitformat-index, "Index entries are sorted in ascending order", "Cache tree").
+-- The requirements of the checks of an index (gitformat-index, "Index entries are sorted in ascending order", "Cache
+-- tree").
 use Rattle.std.specs.Prelude.{◌<◌, ◌^◌, IfSome, length}
-use Rattle.index_cached_tree.specs.Sound.{CountsAtMost, IsSoundTree}
-use Rattle.index_entries.specs.Order.{IsStrictlyOrdered}
-use Rattle.index_format.specs.Contents.{Contents}
-use Rattle.index_tree_writer.specs.Refusals.{AreFit}
-use Rattle.index_tree_writer.specs.Staged.{merged_in}
-use Rattle.index_tree_writer.specs.TreeIds.{AreRight, any_name}
+use Rattle.ext_tree.specs.Sound.{CountsAtMost, IsSoundTree}
+use Rattle.entry_list.specs.Order.{IsStrictlyOrdered}
+use Rattle.index_model.specs.Contents.{Contents}
+use Rattle.tree_encode.specs.Refusals.{AreFit}
+use Rattle.tree_encode.specs.Staged.{merged_in}
+use Rattle.tree_encode.specs.TreeIds.{AreRight, any_name}
 
--- Path and stage strictly increase. Where there is a cached tree, it holds together, and no node counts more than there
--- are records; each node is right; and no merged entry has a fault, of which there are fewer than 2^31.
+-- Path and stage strictly increase. If there is a cache tree, it is consistent, no node counts more than there are
+-- records, and each node is right. No merged entry is invalid, and there are fewer than 2^31 of them.
 pub record IsSoundIndex (v : Contents) : Type 0 where
   pub ordered : IsStrictlyOrdered v.records
   pub together : IfSome v.extensions.tree (λ t. IsSoundTree t × CountsAtMost (length v.records) t)

@@ -1,41 +1,41 @@
-//! Laws of edits of an index by changes, as `State::{stage, resolve, unstage, apply}` make them: what its checks ask of it
-//! stays true. Removals, sorts, pushes and loans are no such edits. A law computes nothing.
+//! Laws of edits of an index by changes, as `State::{stage, resolve, unstage, apply}` make them: the index still passes
+//! its checks. Removals, sorts, pushes and mutable borrows are no such edits. A law computes nothing.
 #![tactic(auto)]
 
 ghost use Rattle.std.specs.Prelude.{◌≡◌, ℕ, ◌+◌, ◌^◌, ◌<◌, ◌≤◌, List, All, IfSome, length, None};
-ghost use Rattle.index_cached_tree.specs.Sound.{CountsAtMost, IsSoundTree};
-ghost use Rattle.index_cached_tree.specs.Tree.{Node};
+ghost use Rattle.ext_tree.specs.Sound.{CountsAtMost, IsSoundTree};
+ghost use Rattle.ext_tree.specs.Tree.{Node};
 ghost use Rattle.index_edit_laws.specs.Faultless.{AreFaultless, StagesShallow};
 ghost use Rattle.index_edit_laws.specs.SoundIndex.{IsSoundIndex};
-ghost use Rattle.index_edits.specs.Changes.{applied, refusal_of};
-ghost use Rattle.index_edits.specs.Refusals.{Check};
-ghost use Rattle.index_edits.specs.Wholes.{refusal_among};
-ghost use Rattle.index_edits.specs.declared.change.Change.{Change};
-ghost use Rattle.index_entries.specs.Order.{IsStrictlyOrdered};
-ghost use Rattle.index_entries.specs.Record.{Record};
-ghost use Rattle.index_extension_writing.specs.MonitorImage.{IsSpellableMonitor};
-ghost use Rattle.index_extension_writing.specs.SpellableCache.{IsSpellableCache};
-ghost use Rattle.index_format.specs.Contents.{Contents};
+ghost use Rattle.entry_edit.specs.Changes.{applied, first_rejection};
+ghost use Rattle.entry_edit.specs.Refusals.{Check};
+ghost use Rattle.entry_edit.specs.Wholes.{refusal_among};
+ghost use Rattle.entry_edit.specs.declared.change.Change.{Change};
+ghost use Rattle.entry_list.specs.Order.{IsStrictlyOrdered};
+ghost use Rattle.entry_list.specs.Record.{Record};
+ghost use Rattle.ext_encode.specs.MonitorImage.{IsSpellableMonitor};
+ghost use Rattle.ext_encode.specs.SpellableCache.{IsSpellableCache};
+ghost use Rattle.index_model.specs.Contents.{Contents};
 ghost use Rattle.index_parts.specs.declared.hash.Kind.{Kind};
-ghost use Rattle.index_tree_writer.specs.Kept.{HasNamesInOrder};
-ghost use Rattle.index_tree_writer.specs.Refusals.{AreFit};
-ghost use Rattle.index_tree_writer.specs.Staged.{merged_in};
-ghost use Rattle.index_tree_writer.specs.TreeIds.{AreRight, any_name};
-ghost use Rattle.index_updates.specs.Invalidated.{all_invalidated};
-ghost use Rattle.index_updates.specs.StillStorable.{StagesSized};
-ghost use Rattle.index_updates.specs.Updates.{updated};
+ghost use Rattle.tree_encode.specs.Kept.{HasNamesInOrder};
+ghost use Rattle.tree_encode.specs.Refusals.{AreFit};
+ghost use Rattle.tree_encode.specs.Staged.{merged_in};
+ghost use Rattle.tree_encode.specs.TreeIds.{AreRight, any_name};
+ghost use Rattle.index_edit.specs.Invalidated.{all_invalidated};
+ghost use Rattle.index_edit.specs.StillStorable.{StagesSized};
+ghost use Rattle.index_edit.specs.Updates.{updated};
 
-/// A cached tree that holds together still does behind changes, without what they make untrue. In such a tree the
-/// names of siblings increase.
+/// A consistent cache tree is still consistent after changes that invalidate it. In such a tree the names of siblings
+/// increase.
 pub fn tree_stays_sound()
     ensures sound { (cs : List Change) (t : Node) → IsSoundTree t → IsSoundTree (all_invalidated cs t) }
     ensures order { (t : Node) → IsSoundTree t → HasNamesInOrder t }
 {}
 
-/// Where each node of a cached tree that has a count has the id and the count that the records give, each still has
-/// them behind changes of the records, in the tree without what these make untrue: whatever the changes are, and in
-/// whichever order the records stand. The names of siblings have to increase, as only the first of a name is
-/// invalidated. No node counts more than there are records then.
+/// If each node of a cache tree that has a count has the id and the count that match the records, this still holds
+/// after changes. The tree is then the one that the changes invalidate. The changes and the order of the records are
+/// arbitrary. The names of siblings must increase, because only the first node with a name is invalidated. No node
+/// counts more than there are records then.
 pub fn tree_stays_right()
     ensures right { (kind : Kind) (cs : List Change) (rs : List Record) (t : Node) → HasNamesInOrder t
         → AreRight kind rs t → AreRight kind (applied cs rs) (all_invalidated cs t) }
@@ -43,10 +43,15 @@ pub fn tree_stays_right()
         → CountsAtMost (length rs) t }
 {}
 
-/// Path and stage strictly increase behind changes, where they did. Merged entries that have trees still have them
-/// behind changes that stage what has no fault, as deep as trees may be, where no path of a change lies in a whole
-/// directory of a sparse index: by a check that lets each name pass, as by that of the changes. There is at most one
-/// more for each change.
+/// If path and stage strictly increase, they still do after changes. If merged entries have trees, they still have them
+/// after changes, by a check that accepts each name, and by that of the changes. There is at most one more merged entry
+/// for each change.
+///
+/// The second statement has these premises on the changes:
+///
+/// - The staged entries are valid.
+/// - Their paths are no deeper than trees may be.
+/// - No path of a change is in a directory that a sparse index has as one entry.
 pub fn entries_stay_fit()
     ensures ordered { (cs : List Change) (rs : List Record) → IsStrictlyOrdered rs
         → IsStrictlyOrdered (applied cs rs) }
@@ -60,25 +65,26 @@ pub fn entries_stay_fit()
         → length (merged_in (applied cs rs)) ≤ length (merged_in rs) + length cs }
 {}
 
-/// Changes of which none is refused stage what has no fault, where their paths aren't too deep, and no path of one lies in
-/// a whole directory of a sparse index.
+/// Changes none of which is rejected stage valid entries, if their paths aren't too deep. No path of one is in a
+/// directory that a sparse index has as one entry.
 pub fn granted_changes_are_faultless()
     ensures { (check : Check) (kind : Kind) (len : ℕ) (cs : List Change) (rs : List Record)
-        → refusal_among (refusal_of check kind len cs) cs rs ≡ None → All StagesSized cs
+        → refusal_among (first_rejection check kind len cs) cs rs ≡ None → All StagesSized cs
         → All StagesShallow cs → AreFaultless check kind cs rs }
 {}
 
-/// What `State::verify_entries`, `State::verify_extensions` and `State::verify_tree_ids` ask of an index is true of it
-/// behind changes, where it was before, with the premise of [`entries_stay_fit`], and where merged entries and changes
-/// are fewer than 2^31 together. So no edit leaves a cached tree that would make the next commit wrong.
+/// If an index passes `State::verify_entries`, `State::verify_extensions` and `State::verify_tree_ids`, it still does
+/// after changes. So no edit leaves a cache tree that would make the next commit wrong.
+///
+/// The premises are that of [`entries_stay_fit`], and that merged entries and changes are fewer than 2^31 together.
 pub fn index_stays_sound()
     ensures { (check : Check) (cs : List Change) (v : Contents)
         → AreFaultless check v.kind cs v.records → length (merged_in v.records) + length cs < 2 ^ 31
         → IsSoundIndex v → IsSoundIndex (updated cs v) }
 {}
 
-/// What bytes could hold of an untracked cache, by a kind of ids, and of what a file system monitor said, they can hold
-/// behind changes. So what was kept of a file is kept of it behind an edit, too.
+/// An untracked cache that could be encoded for ids of a hash algorithm still can be after changes, and so can a
+/// monitor's answer. So what was preserved from a file is also preserved after an edit.
 pub fn extensions_stay_spellable()
     ensures untracked { (kind : Kind) (cs : List Change) (v : Contents)
         → IfSome v.extensions.untracked (IsSpellableCache kind None)

@@ -1,4 +1,4 @@
--- The marker that is read stands there, and a marker that stands there is read.
+-- The marker that is read is in the bytes, and a marker that is in the bytes is read.
 use Rattle.std.proofs.Common.{◌≡◌, ℕ, ◌+◌, ◌-◌, ◌≤◌, Bool, true, false, cond, ltb, eqb, not, List, [], ◌∷◌, ◌++◌}
 use Rattle.std.proofs.Common.{length, take, drop, Some, None, Option, refl, sym, ap, append_assoc, subst, ◌∙◌, arith}
 use Rattle.std.specs.List.{starts_with}
@@ -42,8 +42,7 @@ pub heads_one : (bytes : List ℕ) (xs ys : List Item) → AreItems bytes xs [] 
 heads_one bytes xs ys h k = ap (λ (items : List Item). digest Sha1 (heads items)) (walk_one bytes xs ys [] []
     (record { items_are = h; ended = no_empty }) (record { items_are = k; ended = no_empty })).0
 
--- ---- the pieces of bytes with a marker, behind so many others: its offset, the bytes from there to the marker, and
--- its digest
+-- ---- the pieces of bytes with a marker, after skipped ones: its offset, the bytes from there to it, and its digest
 
 pub record HasMarker (skipped : ℕ) (bytes : List ℕ) (x : ℕ × List ℕ × List ℕ) : Type 0 where
   pub before : List ℕ
@@ -239,7 +238,7 @@ marked_of bytes x m first others items e = record {
   place_is = omega (arith, m.place_is);
 }
 
--- ---- what is read of the last bytes says of all of them
+-- ---- what is read from the last bytes holds for all of them
 
 module _ (before rest : List ℕ) (skipped : ℕ) (len : length before ≡ skipped) where
   pub marked_from : (x : ℕ × List ℕ × List ℕ) → marker_at skipped rest ≡ Some x → (first : Item) (others : List Item)
@@ -252,7 +251,7 @@ module _ (before rest : List ℕ) (skipped : ℕ) (len : length before ≡ skipp
   reads place h le = marker_again skipped rest (place, h.between, h.hash)
       (has_rest before rest skipped (place, h.between, h.hash) len le (marked_has (before ++ rest) place h))
 
-  -- what a marker says of the pieces that were read
+  -- what a marker implies about the pieces that were read
   pub marked_same : (place : ℕ) (x : ℕ × List ℕ × List ℕ) → EndsInMarker Sha1 (before ++ rest) place → skipped ≤ place
       → marker_at skipped rest ≡ Some x
       → (first : Item) × (others : List Item) × AreItems x.1 (first ∷ others) []
@@ -293,7 +292,7 @@ marked_one kind bytes p q h k =
     let b = marked_sha1 kind bytes q k in
     (marked_same [] bytes 0 refl q (p, a.between, a.hash) b (omega arith) (reads [] bytes 0 refl p a (omega arith))).4
 
--- what is read where all bytes are at hand
+-- what is read if no bytes are missing
 pub marked_whole : (kind : Kind) (bytes : List ℕ) (o : Option ℕ)
     → IfSome o (λ place. (before : List ℕ) → length before ≡ 0 → EndsInMarker kind (before ++ bytes) place)
     → IfNone o ((before : List ℕ) (place : ℕ) → length before ≡ 0 → 0 ≤ place

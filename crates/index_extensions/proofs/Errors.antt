@@ -1,4 +1,4 @@
--- What holds anyway holds where there is an error.
+-- What always holds also holds if there is an error.
 use Rattle.std.specs.Prelude.{Result, Ok, Err, IfErr}
 
 pub at_err : {T E : Type 0} {P : Type 0} (r : Result T E) → P → IfErr r (λ _. P)

@@ -1,4 +1,4 @@
--- What is read as an extension stands there, and what stands there is read.
+-- What is read as an extension is in the bytes, and an extension in the bytes is read.
 use Rattle.std.proofs.Common.{◌≡◌, ℕ, ◌+◌, ◌<◌, List, ◌++◌, length, Some, None, refl, sym, ap, subst, ◌∙◌, arith}
 use Rattle.std.proofs.lemmas.List.{length-append}
 use Rattle.std.proofs.lemmas.Option.{same_Some}

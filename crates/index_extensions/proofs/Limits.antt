@@ -1,4 +1,4 @@
--- The test of a limit says what is within it.
+-- The test of a limit determines what is within it.
 use Rattle.std.proofs.Common.{◌≡◌, ℕ, true, Option, Some, None, refl}
 use Rattle.std.proofs.lemmas.Bool.{leb-true, le-leb}
 use Rattle.index_parts.specs.Limit.{IsWithin, is_within}

@@ -16,7 +16,7 @@ pub read_of : {A : Type 0} (Is : List ℕ → A → Type 0) (bytes : List ℕ) �
 read_of Is bytes (inl h) = (Some h.0, h.1)
 read_of Is bytes (inr refused) = (None, refused)
 
--- where bytes spell one value at most, they are read in one way
+-- if bytes encode at most one value, they are read in one way
 pub one_read : {A : Type 0} (Is : List ℕ → A → Type 0) (bytes : List ℕ) → ((x y : A) → Is bytes x → Is bytes y → x ≡ y)
     → (v w : Option A) → IsRead Is bytes v → IsRead Is bytes w → v ≡ w
 one_read Is bytes one None None p q = refl
@@ -24,7 +24,7 @@ one_read Is bytes one None (Some y) p q = absurd (p y q)
 one_read Is bytes one (Some x) None p q = absurd (q x p)
 one_read Is bytes one (Some x) (Some y) p q = ap Some (one x y p q)
 
--- what a content spells is decided where it is for all bytes
+-- what a content encodes is decided if it is for all bytes
 pub value_reading : {A : Type 0} (Is : List ℕ → A → Type 0) → ((bytes : List ℕ) → (v : Option A) × IsRead Is bytes v)
     → (content : Option (List ℕ)) → (v : Option A) × IsValue Is content v
 value_reading Is reading None = (None, refl)

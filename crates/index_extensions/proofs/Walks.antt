@@ -1,4 +1,4 @@
--- The walk over extensions: all bytes have one, and one alone; and what the steps of an iterator say of it.
+-- The traversal of extensions: all bytes have exactly one. What the steps of an iterator imply about it.
 use Rattle.std.proofs.Common.{◌≡◌, ℕ, zero, suc, ◌+◌, ◌%◌, ◌^◌, ◌<◌, ◌≤◌, Bool, true, false, ltb, List, [], ◌∷◌, ◌++◌}
 use Rattle.std.proofs.Common.{length, Option, Some, None, refl, sym, ap, subst, ◌∙◌, arith}
 use Rattle.std.specs.Prelude.{MatchBool}

@@ -1,4 +1,4 @@
--- Extensions that were written stand there, and an end marker behind them names their place.
+-- Extensions that were written are in the bytes, and an end marker after them has their offset.
 use Rattle.std.proofs.Common.{◌≡◌, ℕ, ◌+◌, ◌^◌, ◌<◌, ◌≤◌, List, [], ◌∷◌, ◌++◌, length, refl, sym, ap, subst, ◌∙◌}
 use Rattle.std.proofs.Common.{append_assoc, append-nil, length-append, arith}
 use Rattle.std.specs.Prelude.{codes}
@@ -64,7 +64,7 @@ marker_size offset hs =
     omega (arith, length-append (be32 offset) (digest Sha1 hs), length-digest Sha1 hs) in
     rw n refl
 
--- the marker behind extensions, one or more
+-- the marker after one or more extensions
 pub marker_there : (front trailer : List ℕ) (first : Item) (others : List Item) → 12 ≤ length front
     → length front < 2 ^ 32 → AllByRecursion IsWhole (first ∷ others) → length trailer ≡ 20
     → EndsInMarker Sha1 (front ++ (flat_map item_bytes (first ∷ others)

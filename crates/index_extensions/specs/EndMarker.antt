@@ -1,4 +1,4 @@
--- The end marker (gitformat-index, "End of Index Entry"): where the extensions begin.
+-- The end marker (gitformat-index, "End of Index Entry"), which has the offset at which the extensions begin.
 use Rattle.std.specs.Prelude.{◌≡◌, ℕ, ◌≤◌, List, [], ◌∷◌, ◌++◌, length, codes, Option}
 use Rattle.std.specs.List.{flat_map}
 use Rattle.index_parts.specs.Numbers.{be}
@@ -12,7 +12,7 @@ use Rattle.index_extensions.specs.Walk.{Item, AreItems}
 abbrev pub heads : List Item → List ℕ
 heads items = flat_map (λ i. i.signature ++ i.size) items
 
--- A file of SHA-1 ends in whole extensions, one or more, the marker, and the trailer. The marker has the size 24, the
+-- A file of SHA-1 ends in one or more complete extensions, the marker, and the trailer. The marker has the size 24, the
 -- offset at which the extensions begin, and the digest of their signatures and sizes.
 pub record EndsInMarker (kind : Kind) (bytes : List ℕ) (place : ℕ) : Type 0 where
   pub before : List ℕ
@@ -33,6 +33,6 @@ pub record EndsInMarker (kind : Kind) (bytes : List ℕ) (place : ℕ) : Type 0 
   pub is_digest : hash ≡ digest Sha1 (heads (first ∷ others))
   pub place_is : place ≡ length before
 
--- the place that an end marker names, or None where there is no marker
+-- the offset in an end marker, or None if there is no marker
 abbrev pub IsMarker : Kind → List ℕ → Option ℕ → Type 0
 IsMarker kind bytes place = IsRead (EndsInMarker kind) bytes place

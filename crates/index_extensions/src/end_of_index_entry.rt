@@ -1,4 +1,5 @@
-//! The end marker, which names the place where the extensions begin (gitformat-index, "End of Index Entry").
+//! Reads and writes the end marker, which has the offset at which the extensions begin (gitformat-index, "End of Index
+//! Entry").
 
 ghost use Rattle.std.specs.Prelude.{◌≡◌, ◌≤◌, ◌+◌, ◌++◌, ℕ, length, codes, List, [], ◌∷◌, IfSome};
 ghost use Rattle.std.specs.Prelude.{IfNone};
@@ -21,22 +22,22 @@ use index_parts::hash::{Hasher, Kind, ObjectId};
 use index_parts::util::from_be_u32;
 use std::io;
 
-/// The signature.
+/// The signature of the extension.
 pub const SIGNATURE: Signature = *b"EOIE";
 
-/// The bytes of a marker's content, with a digest of SHA-1: an offset of four bytes, and the digest.
+/// The number of bytes of a marker's content with a SHA-1 digest: an offset of four bytes, and the digest.
 pub const MIN_SIZE: usize = 24;
 
-/// The same with the head of an extension.
+/// The number of bytes of a marker with a SHA-1 digest: the head of the extension, and its content.
 pub const MIN_SIZE_WITH_HEADER: usize = super::MIN_SIZE + MIN_SIZE;
 
-/// The bytes of a file's header. No extension begins before its end.
+/// The number of bytes of a file's header. No extension begins before its end.
 const HEADER_LEN: usize = 12;
 
-/// The bytes of a marker and of the trailer behind it.
+/// The number of bytes of a marker and of the trailer after it.
 const MARKER_AND_TRAILER: usize = MIN_SIZE_WITH_HEADER + 20;
 
-/// What a marker says, before it is compared with the extensions.
+/// The value of a marker, before it is compared with the extensions.
 #[derive(Drop)]
 struct Marker<'a> {
     offset: usize,
@@ -45,19 +46,22 @@ struct Marker<'a> {
     hash: &'a [u8],
 }
 
-/// Where the extensions begin, by the marker in the last bytes before the trailer. None where no marker stands there,
-/// or where its offset and its digest don't fit the extensions before it.
+/// Returns the offset at which the extensions begin, from the marker in the last bytes before the trailer.
 ///
-/// A file of SHA-256 has no marker that counts. Only where the bytes begin as a marker does is a digest made, of the
-/// heads of the extensions. It takes no memory.
+/// It returns `None` if there is no marker, or if its offset and digest don't match the extensions before it. In a file
+/// of SHA-256 a marker is ignored.
+///
+/// A digest of the extensions' heads is computed only if the bytes begin like a marker. No memory is allocated.
 pub fn decode(data: &[u8], object_hash: Kind) -> Option<usize>
     ensures { IsMarker object_hash «data».now result }
 {
     decode_behind(0, data, object_hash)
 }
 
-/// The same of a file of which the last bytes are at hand, behind so many others. None also where the marker names a
-/// place among those.
+/// Returns the offset at which the extensions begin, as [`decode`] does, from the end of a file. `rest` are its last
+/// bytes, after `skipped` others.
+///
+/// It also returns `None` if the offset is within the skipped bytes.
 pub fn decode_behind(skipped: usize, rest: &[u8], object_hash: Kind) -> Option<usize>
     ensures found { IfSome result (λ place. (before : List ℕ) → length before ≡ skipped
         → EndsInMarker object_hash (before ++ rest.now) place) }
@@ -75,7 +79,7 @@ pub fn decode_behind(skipped: usize, rest: &[u8], object_hash: Kind) -> Option<u
     Some(marker.offset)
 }
 
-/// The marker before the trailer of a SHA-1 file, of which so many bytes at the start aren't at hand.
+/// Returns the marker before the trailer of a SHA-1 file, of which the first `skipped` bytes are missing.
 #[tactic(auto, unfolding(crate::specs::WalkSteps::marker_at))]
 fn marker_of(skipped: usize, bytes: &[u8]) -> Option<Marker<'_>>
     ensures { option_map (λ m. (m.offset, m.between.now, m.hash.now)) result
@@ -106,7 +110,8 @@ fn marker_of(skipped: usize, bytes: &[u8]) -> Option<Marker<'_>>
     })
 }
 
-/// The SHA-1 digest of the signatures and sizes of extensions, one or more, that are all of the bytes.
+/// Returns the SHA-1 digest of the signatures and sizes of extensions. It returns `None` if the bytes aren't one or
+/// more complete extensions.
 fn digest_of_heads(bytes: &[u8]) -> Option<ObjectId>
     ensures some { IfSome result (λ id. (first : Item) × (others : List Item)
         × AreItems bytes.now (first ∷ others) []
@@ -127,7 +132,7 @@ fn digest_of_heads(bytes: &[u8]) -> Option<ObjectId>
     Some(hasher.finalize())
 }
 
-/// The digest of signatures and sizes.
+/// Returns the digest of signatures and sizes.
 fn digest_of_pairs(object_hash: Kind, prior_extensions: &[(Signature, u32)]) -> ObjectId
     ensures { id_bytes result ≡ digest object_hash (heads_bytes prior_extensions.now) }
 {
@@ -139,7 +144,7 @@ fn digest_of_pairs(object_hash: Kind, prior_extensions: &[(Signature, u32)]) -> 
     hasher.finalize()
 }
 
-/// The twelve bytes before the digest of a marker.
+/// Returns the twelve bytes before the digest of a marker.
 fn before_digest(object_hash: Kind, offset: u32) -> [u8; 12]
     ensures { result ≡ codes "EOIE" ++ (be32 (4 + id_len object_hash) ++ be32 offset) }
 {
@@ -148,17 +153,18 @@ fn before_digest(object_hash: Kind, offset: u32) -> [u8; 12]
     [b'E', b'O', b'I', b'E', a, b, c, d, e, f, g, h]
 }
 
-/// Two pieces.
+/// Returns a list of two pieces.
 fn two<'a>(a: &'a [u8], b: &'a [u8]) -> [&'a [u8]; 2]
     ensures { flat_map (λ p. p.now) result ≡ a.now ++ b.now }
 {
     [a, b]
 }
 
-/// Writes an end marker behind extensions that begin at this offset and have these signatures and sizes, which may be
-/// none (gitformat-index, "End of Index Entry").
+/// Writes an end marker after extensions that begin at the offset `offset_to_extensions` (gitformat-index, "End of
+/// Index Entry"). It allocates no memory.
 ///
-/// An error comes only where the writer failed, which then took a prefix of the bytes. No memory is taken.
+/// `prior_extensions` has their signatures and sizes, and may be empty. An error occurs only if the writer failed,
+/// which then took a prefix of the bytes.
 pub fn write_to<W: Out>(
     out: &mut W,
     object_hash: Kind,

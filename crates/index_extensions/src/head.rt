@@ -5,7 +5,8 @@ ghost use Rattle.index_parts.specs.Numbers.{be32};
 
 use super::Signature;
 
-/// The bytes before the content of an extension with this signature, of so many bytes.
+/// Returns the eight bytes before the content of an extension with this signature. `len` is the length of the content
+/// in bytes.
 pub fn item_head(signature: Signature, len: u32) -> [u8; 8]
     ensures { result ≡ signature ++ be32 len }
 {
@@ -14,7 +15,7 @@ pub fn item_head(signature: Signature, len: u32) -> [u8; 8]
     [a, b, c, d, e, f, g, h]
 }
 
-/// Four bytes as a signature.
+/// Returns four bytes as a signature.
 pub fn signature_of(bytes: &[u8]) -> Signature
     requires { length bytes.now ≡ 4 }
     ensures { result ≡ bytes.now }

@@ -1,4 +1,4 @@
-//! The walk over extensions.
+//! Iterates over extensions.
 
 ghost use Rattle.std.specs.Prelude.{◌≡◌, ◌<◌, ◌++◌, List, ℕ, length, IfSome, IfNone};
 ghost use Rattle.std.specs.Iterator.{at_most};
@@ -12,19 +12,19 @@ use super::{MIN_SIZE, Signature};
 use index_parts::hash::Kind;
 use index_parts::util::from_be_u32;
 
-/// The extensions that bytes begin with, one after another, as signature and content. Nothing is copied.
+/// An iterator over the extensions at the start of bytes, as signature and content. Nothing is copied.
 ///
-/// It ends where no whole extension begins. Fewer than eight bytes are left alone there; a head whose size passes the
-/// end is counted as consumed, and what stands behind it isn't looked at.
+/// It ends if no complete extension follows. Fewer than eight bytes are then left unread. If a head's size exceeds the
+/// rest, the head is counted as consumed, and the bytes after it aren't read.
 #[derive(Drop)]
 pub struct Iter<'a> {
     rest: &'a [u8],
-    /// How many bytes were consumed, heads and contents, from 0 on.
+    /// The number of bytes that were consumed, heads and contents, beginning with 0.
     pub consumed: usize,
 }
 
 impl<'a> Iter<'a> {
-    /// The extensions of bytes from the first extension on, without the trailer.
+    /// Returns an iterator over bytes from the first extension on, without the trailer.
     pub fn new(data_at_beginning_of_extensions_and_truncated: &'a [u8]) -> Self
         ensures all { unread result ≡ data_at_beginning_of_extensions_and_truncated.now }
         ensures none_yet { result.consumed ≡ 0 }
@@ -35,8 +35,8 @@ impl<'a> Iter<'a> {
         }
     }
 
-    /// The extensions of bytes from the first extension to the end of the file; the trailer of the kind is left off.
-    /// None where there are fewer bytes than it has.
+    /// Returns an iterator over bytes from the first extension to the end of the file, without the trailer of the hash
+    /// algorithm `object_hash`. It returns `None` if there are fewer bytes than the trailer has.
     pub fn new_without_checksum(
         data_at_beginning_of_extensions: &'a [u8],
         object_hash: Kind,
@@ -80,7 +80,7 @@ impl<'a> Iterator for Iter<'a> {
     }
 }
 
-/// The extension at the front: its signature, its size as it is encoded, its content, and the bytes behind it.
+/// Returns the extension at the start of bytes: its signature, its encoded size, its content, and the bytes after it.
 #[tactic(auto, unfolding(crate::specs::WalkSteps::item_at))]
 pub(super) fn item_of(bytes: &[u8]) -> Option<(&[u8], &[u8], &[u8], &[u8])>
     ensures { option_map

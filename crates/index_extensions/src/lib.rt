@@ -1,5 +1,5 @@
-//! What all extensions of a git index file have in common: their head and the walk over them, the end marker and the
-//! extension of a sparse index (gitformat-index, "Extensions").
+//! Reads and writes the common parts of extensions: their heads, the end marker, and the extension of a sparse index
+//! (gitformat-index, "Extensions").
 #![tactic(auto)]
 
 pub mod end_of_index_entry;
@@ -9,9 +9,9 @@ pub mod sparse;
 
 pub use iter::Iter;
 
-/// The four bytes by which an extension begins, as `TREE`. A reader that doesn't know a signature may skip
-/// the extension where the first byte isn't a lower-case letter.
+/// The four bytes with which an extension begins, for example `TREE`. A reader that doesn't know a signature may skip
+/// the extension if the first byte isn't a lower-case letter.
 pub type Signature = [u8; 4];
 
-/// The bytes of an extension's head: the signature, and the size of its content in four bytes.
+/// The number of bytes of an extension's head: the signature, and the size of its content in four bytes.
 pub const MIN_SIZE: usize = 8;

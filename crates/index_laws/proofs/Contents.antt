@@ -6,18 +6,19 @@ use Rattle.std.proofs.lemmas.List.Elements.{All-from_recursion}
 use Rattle.index_parts.proofs.Digests.{length-digest}
 use Rattle.index_parts.specs.Digest.{digest}
 use Rattle.index_parts.specs.Id.{id_kind, id_bytes, id_len, make_id}
-use Rattle.index_objects.specs.Mode.{mode_of_kind}
+use Rattle.base_objects.specs.Mode.{mode_of_kind}
 use Rattle.index_parts.specs.Octal.{IsOctal, IsOctalDigit}
-use Rattle.index_objects.specs.TreeObject.{TreeEntry, IsTreeEntry, IsTreeObject, kind_of_mode}
+use Rattle.base_objects.specs.TreeObject.{TreeEntry, IsTreeEntry, IsTreeObject, kind_of_mode}
 use Rattle.index_parts.specs.declared.hash.Kind.{Kind}
 use Rattle.index_parts.specs.declared.hash.Kind.TheVariants as hashes
 use Rattle.index_parts.specs.declared.hash.ObjectId.{ObjectId}
 use Rattle.index_parts.specs.declared.hash.ObjectId.TheVariants as ids
-use Rattle.index_objects.specs.declared.object.tree.EntryKind.{EntryKind}
-use Rattle.index_objects.specs.declared.object.tree.EntryKind.TheVariants as kinds
-use Rattle.index_tree_writer.specs.Directory.{Item, Items, leaf, directory, no_more, next, IsName, IsItem, AreItems}
-use Rattle.index_tree_writer.specs.Directory.{content, directory_bytes, item_bytes}
-use Rattle.index_tree_writer.specs.Objects.{tree_mode_text, tree_entry_bytes, tree_id, tree_message}
+use Rattle.base_objects.specs.declared.object.tree.EntryKind.{EntryKind}
+use Rattle.base_objects.specs.declared.object.tree.EntryKind.TheVariants as kinds
+use Rattle.tree_encode.specs.Directory.{DirectoryItem, DirectoryItems, leaf, directory, no_more, next, IsPathComponent}
+use Rattle.tree_encode.specs.Directory.{IsDirectoryItem, AreDirectoryItems}
+use Rattle.tree_encode.specs.Directory.{content, directory_bytes, directory_item_bytes}
+use Rattle.tree_encode.specs.Objects.{tree_mode_text, tree_entry_bytes, tree_id, tree_message}
 
 -- ---- modes
 
@@ -105,7 +106,7 @@ tree_id_len kind bytes =
 
 -- ---- entries
 
-entry_is : (kind : Kind) (name : List ℕ) (k : EntryKind) (id : ObjectId) (rest : List ℕ) → IsName name
+entry_is : (kind : Kind) (name : List ℕ) (k : EntryKind) (id : ObjectId) (rest : List ℕ) → IsPathComponent name
     → id_kind id ≡ kind → length (id_bytes id) ≡ id_len kind
     → IsTreeEntry kind (tree_entry_bytes name k id ++ rest)
     (record { mode = mode_of_kind k; name = name; id = id }) rest
@@ -122,23 +123,24 @@ entry_is kind name k id rest h of_kind len = record {
   is_id = made_again kind id of_kind;
 }
 
--- what an item lists, if it stands in a tree
+-- what an item lists, if it is in a tree
 abbrev pub listed_directory : Kind → List ℕ → List ℕ → List TreeEntry
 listed_directory kind name [] = []
 listed_directory kind name (b ∷ bytes) =
     record { mode = mode_of_kind kinds.Tree; name = name; id = tree_id kind (b ∷ bytes) } ∷ []
 
-abbrev pub listed_item : Kind → Item → List TreeEntry
+abbrev pub listed_item : Kind → DirectoryItem → List TreeEntry
 listed_item kind (leaf name k id true) = []
 listed_item kind (leaf name k id false) = record { mode = mode_of_kind k; name = name; id = id } ∷ []
 listed_item kind (directory name items) = listed_directory kind name (content kind items)
 
-abbrev pub listed : Kind → Items → List TreeEntry
+abbrev pub listed : Kind → DirectoryItems → List TreeEntry
 listed kind no_more = []
 listed kind (next x xs) = listed_item kind x ++ listed kind xs
 
-item_is : (kind : Kind) (x : Item) (bytes : List ℕ) (es : List TreeEntry) → IsItem kind x → IsTreeObject kind bytes es
-    → IsTreeObject kind (item_bytes kind x ++ bytes) (listed_item kind x ++ es)
+item_is : (kind : Kind) (x : DirectoryItem) (bytes : List ℕ) (es : List TreeEntry) → IsDirectoryItem kind x
+    → IsTreeObject kind bytes es
+    → IsTreeObject kind (directory_item_bytes kind x ++ bytes) (listed_item kind x ++ es)
 item_is kind (leaf name k id true) bytes es h rest = rest
 item_is kind (leaf name k id false) bytes es h rest = (bytes, entry_is kind name k id bytes h.0 h.1 h.2, rest)
 item_is kind (directory name items) bytes es h rest = by (content kind items)
@@ -152,7 +154,7 @@ item_is kind (directory name items) bytes es h rest = by (content kind items)
       rest,
     )
 
-pub content_is : (kind : Kind) (items : Items) → AreItems kind items
+pub content_is : (kind : Kind) (items : DirectoryItems) → AreDirectoryItems kind items
     → IsTreeObject kind (content kind items) (listed kind items)
 content_is kind no_more h = refl
 content_is kind (next x xs) h = item_is kind x (content kind xs) (listed kind xs) h.0 (content_is kind xs h.1)

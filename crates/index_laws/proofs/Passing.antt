@@ -7,20 +7,21 @@ use Rattle.std.specs.Option.{option_map}
 use Rattle.std.proofs.lemmas.List.{length-append}
 use Rattle.std.proofs.lemmas.List.Elements.{recursion_from_All}
 use Rattle.std.proofs.lemmas.Option.{same_Some}
-use Rattle.index_objects.specs.Mode.{named_kind}
-use Rattle.index_objects.specs.NameCheck.{refusal_as}
-use Rattle.index_objects.specs.declared.object.tree.EntryKind.{EntryKind}
-use Rattle.index_objects.specs.declared.object.tree.EntryKind.TheVariants as kinds
+use Rattle.base_objects.specs.Mode.{named_kind}
+use Rattle.base_objects.specs.NameCheck.{refusal_as}
+use Rattle.base_objects.specs.declared.object.tree.EntryKind.{EntryKind}
+use Rattle.base_objects.specs.declared.object.tree.EntryKind.TheVariants as kinds
 use Rattle.index_parts.specs.declared.hash.Kind.{Kind}
-use Rattle.index_entries.specs.EntryImage.{is_removed}
-use Rattle.index_entries.specs.Record.{Record}
-use Rattle.index_tree_writer.specs.Directory.{Item, Items, leaf, directory, no_more, next, IsItem, AreItems}
-use Rattle.index_tree_writer.specs.Directory.{item_leaves, key, leaves}
-use Rattle.index_tree_writer.specs.Refusals.{Check, IsFit, IsTreePath, of_file, of_directory, beneath}
-use Rattle.index_tree_writer.specs.Staged.{Staged, is_intended, staged_entry, staged_in}
-use Rattle.index_tree_writer.proofs.OneTree.{HasFirst, dir_leaves, first_of_items, slashed}
-use Rattle.index_tree_writer.proofs.PathNames.{NoSlash, first_slash, no_slash_in}
-use Rattle.index_tree_writer.proofs.Pushes.{under}
+use Rattle.entry_list.specs.EntryImage.{is_removed}
+use Rattle.entry_list.specs.Record.{Record}
+use Rattle.tree_encode.specs.Directory.{DirectoryItem, DirectoryItems, leaf, directory, no_more, next, IsDirectoryItem}
+use Rattle.tree_encode.specs.Directory.{AreDirectoryItems}
+use Rattle.tree_encode.specs.Directory.{item_leaves, key, leaves}
+use Rattle.tree_encode.specs.Refusals.{NameCheck, IsTreeRecord, IsTreePath, of_file, of_directory, beneath}
+use Rattle.tree_encode.specs.Staged.{Staged, is_intended, staged_entry, staged_in}
+use Rattle.tree_encode.proofs.OneTree.{HasFirst, dir_leaves, first_of_items, slashed}
+use Rattle.tree_encode.proofs.PathNames.{NoSlash, first_slash, no_slash_in}
+use Rattle.tree_encode.proofs.Pushes.{under}
 use Rattle.index_laws.specs.Reading.{FitNamesPass, ItemPasses, NamesPass}
 use Rattle.index_laws.proofs.TreeNames.{tree_or_file}
 use Rattle.index_laws.proofs.TreesMade.{file_key}
@@ -62,24 +63,26 @@ all_under name (s ∷ ss) = (
 )
 
 mutual
-  item_paths : (kind : Kind) (x : Item) → IsItem kind x → AllByRecursion HasPath (item_leaves [] x)
+  item_paths : (kind : Kind) (x : DirectoryItem) → IsDirectoryItem kind x → AllByRecursion HasPath (item_leaves [] x)
   item_paths kind (leaf name k id later) h = (file_some name k h.0.some, tt)
   item_paths kind (directory name items) h =
       subst (AllByRecursion HasPath) (sym (dir_leaves name items)) (all_under name (leaves [] items))
 
-  paths : (kind : Kind) (items : Items) → AreItems kind items → AllByRecursion HasPath (leaves [] items)
+  paths : (kind : Kind) (items : DirectoryItems) → AreDirectoryItems kind items
+      → AllByRecursion HasPath (leaves [] items)
   paths kind no_more h = tt
   paths kind (next x xs) h =
       both HasPath (item_leaves [] x) (leaves [] xs) (item_paths kind x h.0) (paths kind xs h.1)
 
-module _ (check : Check) where
+module _ (check : NameCheck) where
   -- the path is made of names that pass
   abbrev PathPasses : Staged → Type 0
   PathPasses s = (levels : ℕ) × IsTreePath check levels s.kind s.path
 
   -- ---- of records
 
-  record_passes : (kind : Kind) (r : Record) (s : Staged) → IsFit check kind r → staged_entry r ≡ Some s → PathPasses s
+  record_passes : (kind : Kind) (r : Record) (s : Staged) → IsTreeRecord check kind r → staged_entry r ≡ Some s
+      → PathPasses s
   record_passes kind r s fit = by (is_removed r.flags) refl (named_kind r.mode) refl
     where
       by : (b : Bool) → is_removed r.flags ≡ b → (k : Option EntryKind) → named_kind r.mode ≡ k
@@ -94,7 +97,7 @@ module _ (check : Check) where
           subst PathPasses (same_Some staged s e)
           (2048, subst (λ (j : EntryKind). IsTreePath check 2048 j r.path) same found.1.1)
 
-  staged_pass : (kind : Kind) (rs : List Record) → AllByRecursion (IsFit check kind) rs
+  staged_pass : (kind : Kind) (rs : List Record) → AllByRecursion (IsTreeRecord check kind) rs
       → AllByRecursion PathPasses (staged_in rs)
   staged_pass kind [] h = tt
   staged_pass kind (r ∷ rs) h = by (staged_entry r) refl (staged_pass kind rs h.1)
@@ -155,7 +158,8 @@ module _ (check : Check) where
   -- ---- in a directory
 
   mutual
-    item_passes : (kind : Kind) (x : Item) → IsItem kind x → AllByRecursion PathPasses (item_leaves [] x)
+    item_passes : (kind : Kind) (x : DirectoryItem) → IsDirectoryItem kind x
+        → AllByRecursion PathPasses (item_leaves [] x)
         → ItemPasses check x
     item_passes kind (leaf name k id later) h g =
         leaf_passes name k g.0.0 (key name k) h.0.component refl g.0.1
@@ -167,7 +171,8 @@ module _ (check : Check) where
               (all_behind name (leaves [] items) h.0.component (paths kind items h.2) inner),
         )
 
-    names_pass : (kind : Kind) (items : Items) → AreItems kind items → AllByRecursion PathPasses (leaves [] items)
+    names_pass : (kind : Kind) (items : DirectoryItems) → AreDirectoryItems kind items
+        → AllByRecursion PathPasses (leaves [] items)
         → NamesPass check items
     names_pass kind no_more h g = tt
     names_pass kind (next x xs) h g =
@@ -178,4 +183,4 @@ pub fit_names : FitNamesPass
 fit_names check kind rs items fit t =
     names_pass check kind items t.directory.made
     (subst (AllByRecursion (PathPasses check)) (sym t.leaves)
-    (staged_pass check kind rs (recursion_from_All (IsFit check kind) rs fit.each)))
+    (staged_pass check kind rs (recursion_from_All (IsTreeRecord check kind) rs fit.each)))

@@ -1,4 +1,4 @@
--- Paths that are staged and of which none lies in another: a further one lies in one of them, or in none.
+-- Staged paths none of which is inside another: a further one is inside one of them, or inside none.
 use Rattle.std.proofs.Common.{◌≡◌, ◌⊎◌, inl, inr, ℕ, List, [], ◌∷◌, ◌++◌, Bool, true, false, Contains, length, take}
 use Rattle.std.proofs.Common.{eqb, refl, sym, ap, subst, ◌∙◌, append_assoc, arith}
 use Rattle.std.specs.Cmp.Lexicographic.{pointwise}
@@ -7,27 +7,27 @@ use Rattle.std.proofs.lemmas.Cmp.{nat_list_cmp_total, tied_itself}
 use Rattle.std.proofs.lemmas.List.{length-append}
 use Rattle.std.proofs.lemmas.List.Elements.{Contains-append_cases, Contains-append_left, Contains-append_right}
 use Rattle.std.proofs.lemmas.List.Elements.{Contains-push, Contains-push_cases}
-use Rattle.index_objects.specs.declared.object.tree.EntryKind.TheVariants as kinds
-use Rattle.index_entries.specs.Order.{path_cmp}
-use Rattle.index_tree_writer.specs.Refusals.{LieApart, BeginsWith, IsBelow, IsInside, LiesIn}
-use Rattle.index_tree_writer.specs.Staged.{Staged}
-use Rattle.index_tree_writer.proofs.Aparts.{begins_from, below_begins, below_or_same, lies_begins, not_after}
-use Rattle.index_tree_writer.proofs.Aparts.{not_begins}
+use Rattle.base_objects.specs.declared.object.tree.EntryKind.TheVariants as kinds
+use Rattle.entry_list.specs.Order.{path_cmp}
+use Rattle.tree_encode.specs.Refusals.{AreDisjointPaths, HasPathPrefix, IsBelow, IsInside, LiesIn}
+use Rattle.tree_encode.specs.Staged.{Staged}
+use Rattle.tree_encode.proofs.Aparts.{begins_from, below_begins, below_or_same, lies_begins, not_after}
+use Rattle.tree_encode.proofs.Aparts.{not_begins}
 use Rattle.index_laws.proofs.TreeNames.{tree_or_file}
 
--- ---- a path that lies in another
+-- ---- a path that is inside another
 
-begins_judged : (p f : List ℕ) → BeginsWith p f ⊎ (BeginsWith p f → ⊥)
+begins_judged : (p f : List ℕ) → HasPathPrefix p f ⊎ (HasPathPrefix p f → ⊥)
 begins_judged p f = by (pointwise eqb f (take (length f) p)) refl
   where
-    by : (r : Bool) → r ≡ pointwise eqb f (take (length f) p) → BeginsWith p f ⊎ (BeginsWith p f → ⊥)
+    by : (r : Bool) → r ≡ pointwise eqb f (take (length f) p) → HasPathPrefix p f ⊎ (HasPathPrefix p f → ⊥)
     by true e = inl (begins_from p f true e refl)
     by false e = inr (not_begins p f false e refl)
 
 below_judged : (p f : List ℕ) → IsBelow p f ⊎ (IsBelow p f → ⊥)
 below_judged p f = by (begins_judged p (f ++ 47 ∷ []))
   where
-    by : BeginsWith p (f ++ 47 ∷ []) ⊎ (BeginsWith p (f ++ 47 ∷ []) → ⊥) → IsBelow p f ⊎ (IsBelow p f → ⊥)
+    by : HasPathPrefix p (f ++ 47 ∷ []) ⊎ (HasPathPrefix p (f ++ 47 ∷ []) → ⊥) → IsBelow p f ⊎ (IsBelow p f → ⊥)
     by (inl b) = inl (b.0, b.1 ∙ append_assoc f (47 ∷ []) b.0)
     by (inr n) = inr (λ b. n (b.0, b.1 ∙ sym (append_assoc f (47 ∷ []) b.0)))
 
@@ -39,7 +39,7 @@ lies_judged : (p : List ℕ) (s : Staged) → LiesIn p s ⊎ (LiesIn p s → ⊥
 lies_judged p s = by (below_judged p s.path) (tree_or_file s.kind) (begins_judged p s.path)
   where
     by : IsBelow p s.path ⊎ (IsBelow p s.path → ⊥) → (s.kind ≡ kinds.Tree) ⊎ (s.kind ≡ kinds.Tree → ⊥)
-        → BeginsWith p s.path ⊎ (BeginsWith p s.path → ⊥) → LiesIn p s ⊎ (LiesIn p s → ⊥)
+        → HasPathPrefix p s.path ⊎ (HasPathPrefix p s.path → ⊥) → LiesIn p s ⊎ (LiesIn p s → ⊥)
     by (inl b) t c = inl (inl b)
     by (inr n) (inl t) (inl b) = inl (inr (t, b))
     by (inr n) (inl t) (inr m) = inr (neither p s n (λ i. m i.1))
@@ -66,7 +66,7 @@ some_judged p (s ∷ ss) = by (lies_judged p s) (some_judged p ss)
         split t (inl c) l = at_head t (Contains-push_cases [] s t c) l
         split t (inr c) l = m t c l
 
--- ---- two paths that one lies in
+-- ---- two paths that one path is inside
 
 prefixes : (p q x y : List ℕ) → p ++ x ≡ q ++ y → ((z : List ℕ) × (q ≡ p ++ z)) ⊎ ((z : List ℕ) × (p ≡ q ++ z))
 prefixes [] q x y e = inl (q, refl)
@@ -85,7 +85,8 @@ prefixes (a ∷ p) (b ∷ q) x y e = by (prefixes p q x y tail)
     by (inr h) = inr (h.0, ap (λ (c : ℕ). c ∷ p) head ∙ ap (λ (l : List ℕ). b ∷ l) h.1)
 
 -- the longer of both is the same
-longer_same : (before : List Staged) → LieApart before → (path : List ℕ) (s t : Staged) (z : List ℕ) → Contains before s
+longer_same : (before : List Staged) → AreDisjointPaths before → (path : List ℕ) (s t : Staged) (z : List ℕ)
+    → Contains before s
     → Contains before t → t.path ≡ s.path ++ z → LiesIn path s → LiesIn path t → s.path ≡ t.path
 longer_same before apart path s t z c d e (inr i) m = sym (apart.inside s t c d (i.0, (z, e)))
 longer_same before apart path s t z c d e (inl b) m = by (lies_begins path t m)
@@ -94,10 +95,10 @@ longer_same before apart path s t z c d e (inl b) m = by (lies_begins path t m)
     split (inl same) = sym same
     split (inr below) = absurd (apart.below s t c d below)
 
-    by : BeginsWith path t.path → s.path ≡ t.path
+    by : HasPathPrefix path t.path → s.path ≡ t.path
     by g = split (below_or_same s.path t.path path z g.0 e g.1 b)
 
-pub one_file : (before : List Staged) → LieApart before → (path : List ℕ) (s t : Staged) → Contains before s
+pub one_file : (before : List Staged) → AreDisjointPaths before → (path : List ℕ) (s t : Staged) → Contains before s
     → Contains before t → LiesIn path s → LiesIn path t → s.path ≡ t.path
 one_file before apart path s t c d l m =
     let a = lies_begins path s l in
@@ -108,12 +109,12 @@ one_file before apart path s t c d l m =
     by (inl h) = longer_same before apart path s t h.0 c d h.1 l m
     by (inr h) = sym (longer_same before apart path t s h.0 d c h.1 m l)
 
--- ---- one more that lies in none before it
+-- ---- one more that is inside none before it
 
 pub not_itself : (p : List ℕ) → path_cmp p p ≡ Less → ⊥
 not_itself p e = let tie = tied_itself nat_list_cmp_total p in absurd (cc (tie, e))
 
-module _ (ss : List Staged) (x : Staged) (apart : LieApart ss) (rise : (s : Staged) → Contains ss s
+module _ (ss : List Staged) (x : Staged) (apart : AreDisjointPaths ss) (rise : (s : Staged) → Contains ss s
     → path_cmp s.path x.path ≡ Less) (out : (s : Staged) → Contains ss s → LiesIn x.path s → ⊥) where
   below_more : (p u : Staged) → Contains (ss ++ x ∷ []) p → Contains (ss ++ x ∷ []) u → IsBelow u.path p.path → ⊥
   below_more p u a b below = by (Contains-push_cases ss x p a) (Contains-push_cases ss x u b)
@@ -137,8 +138,8 @@ module _ (ss : List Staged) (x : Staged) (apart : LieApart ss) (rise : (s : Stag
       by (inl c) (inl d) = apart.inside p u c d inside
       by (inl c) (inr s) = absurd (out p c (inr (subst (λ (y : Staged). IsInside y.path p) (sym s) inside)))
       by (inr s) (inl d) = absurd
-          (not_after u.path x.path (rise u d) (subst (λ (y : Staged). BeginsWith u.path y.path) (sym s) inside.1))
+          (not_after u.path x.path (rise u d) (subst (λ (y : Staged). HasPathPrefix u.path y.path) (sym s) inside.1))
       by (inr s) (inr t) = ap (λ (y : Staged). y.path) (sym t ∙ s)
 
-  pub apart_more : LieApart (ss ++ x ∷ [])
+  pub apart_more : AreDisjointPaths (ss ++ x ∷ [])
   apart_more = record { below = below_more; inside = inside_more }

@@ -6,27 +6,28 @@ use Rattle.std.specs.List.{AllByRecursion}
 use Rattle.std.proofs.lemmas.List.{append-nil, length-append, map-append, nil_from_length}
 use Rattle.std.proofs.lemmas.Option.{same_Some}
 use Rattle.std.proofs.lemmas.List.Elements.{All-from_recursion, filter-append, recursion_from_All}
-use Rattle.index_objects.specs.Mode.{mode_of_kind}
-use Rattle.index_objects.specs.Object.{Found, object}
-use Rattle.index_objects.specs.TreeObject.{TreeEntry, IsTreeObject, kind_of_mode}
+use Rattle.base_objects.specs.Mode.{mode_of_kind}
+use Rattle.base_objects.specs.Object.{Found, object}
+use Rattle.base_objects.specs.TreeObject.{TreeEntry, IsTreeObject, kind_of_mode}
 use Rattle.index_parts.specs.declared.hash.Kind.{Kind}
 use Rattle.index_parts.specs.declared.hash.ObjectId.{ObjectId}
-use Rattle.index_objects.specs.declared.object.Kind.TheVariants as objects
-use Rattle.index_objects.specs.declared.object.tree.EntryKind.{EntryKind}
-use Rattle.index_objects.specs.declared.object.tree.EntryKind.TheVariants as kinds
-use Rattle.index_entries.specs.Record.{Record}
-use Rattle.index_objects.specs.NameCheck.{refusal_as}
-use Rattle.index_tree_reader.specs.Leaves.{LeavesAnswer, Yields, whole_tree, some_entries, opened, ended, leaf as one_leaf}
-use Rattle.index_tree_reader.specs.Leaves.{below, leaf_of, with_leaves}
-use Rattle.index_tree_writer.specs.Directory.{Item, Items, leaf, directory, no_more, next, IsItem, AreItems, content}
-use Rattle.index_tree_writer.specs.Directory.{directory_bytes, item_bytes, items_id, item_leaves, leaves}
-use Rattle.index_tree_writer.specs.Directory.{directory_object, item_objects, objects_below, objects as all_objects}
-use Rattle.index_tree_writer.specs.Directory.{key}
-use Rattle.index_tree_writer.specs.Objects.{Taken, tree_id, with_objects}
-use Rattle.index_tree_writer.specs.Refusals.{Check}
+use Rattle.base_objects.specs.declared.object.Kind.TheVariants as objects
+use Rattle.base_objects.specs.declared.object.tree.EntryKind.{EntryKind}
+use Rattle.base_objects.specs.declared.object.tree.EntryKind.TheVariants as kinds
+use Rattle.entry_list.specs.Record.{Record}
+use Rattle.base_objects.specs.NameCheck.{refusal_as}
+use Rattle.tree_decode.specs.Leaves.{LeavesAnswer, Yields, whole_tree, some_entries, opened, ended, leaf as one_leaf}
+use Rattle.tree_decode.specs.Leaves.{below, leaf_of, with_leaves}
+use Rattle.tree_encode.specs.Directory.{DirectoryItem, DirectoryItems, leaf, directory, no_more, next, IsDirectoryItem}
+use Rattle.tree_encode.specs.Directory.{AreDirectoryItems, content}
+use Rattle.tree_encode.specs.Directory.{directory_bytes, directory_item_bytes, items_id, item_leaves, leaves}
+use Rattle.tree_encode.specs.Directory.{directory_object, item_objects, objects_below, objects as all_objects}
+use Rattle.tree_encode.specs.Directory.{key}
+use Rattle.tree_encode.specs.Objects.{Taken, tree_id, with_objects}
+use Rattle.tree_encode.specs.Refusals.{NameCheck}
 use Rattle.index_laws.specs.Reading.{HoldsTrees, ItemPasses, NamesPass, ReadsBack, StoredReadBack, leaf_record}
 use Rattle.index_laws.specs.Reading.{standing}
-use Rattle.index_tree_writer.specs.Staged.{Staged, staged_in}
+use Rattle.tree_encode.specs.Staged.{Staged, staged_in}
 use Rattle.index_laws.proofs.Passing.{each_of_both, fit_names}
 use Rattle.index_laws.proofs.Contents.{content_is, kind_again, listed, listed_directory, listed_item, tree_id_kind}
 
@@ -43,7 +44,7 @@ leaf_listed front name kinds.Commit id h = refl
 
 -- ---- a directory
 
-module _ (find : ObjectId → Found) (check : Check) (kind : Kind) where
+module _ (find : ObjectId → Found) (check : NameCheck) (kind : Kind) where
   abbrev IsThere : ObjectId × List ℕ → Type 0
   IsThere o = find o.0 ≡ object objects.Tree o.1
 
@@ -61,9 +62,9 @@ module _ (find : ObjectId → Found) (check : Check) (kind : Kind) where
   tree_some : (name : List ℕ) (c : ℕ) (cs : List ℕ) → directory_bytes kind name (c ∷ cs) ≡ [] → ⊥
   tree_some name c cs d = absurd cc
 
-  -- without bytes nothing stands in it, and nothing below it has an object
+  -- if an item has no bytes, nothing in it is in a tree, and nothing below it has an object
   mutual
-    item_blank : (front : List ℕ) (x : Item) → item_bytes kind x ≡ []
+    item_blank : (front : List ℕ) (x : DirectoryItem) → directory_item_bytes kind x ≡ []
         → (standing (item_leaves front x) ≡ []) × (item_objects kind x ≡ [])
     item_blank front (leaf name k id true) e = (refl, refl)
     item_blank front (leaf name kinds.Tree id false) e = absurd cc
@@ -85,13 +86,13 @@ module _ (find : ObjectId → Found) (check : Check) (kind : Kind) where
         )
         by (c ∷ cs) z d blank = absurd (tree_some name c cs d)
 
-    items_blank : (front : List ℕ) (items : Items) → content kind items ≡ []
+    items_blank : (front : List ℕ) (items : DirectoryItems) → content kind items ≡ []
         → (standing (leaves front items) ≡ []) × (objects_below kind items ≡ [])
     items_blank front no_more e = (refl, refl)
     items_blank front (next x xs) e =
-        let n : length (item_bytes kind x) + length (content kind xs) ≡ 0 =
-        sym (length-append (item_bytes kind x) (content kind xs)) ∙ ap length e in
-        let a = item_blank front x (nil_from_length (item_bytes kind x) (omega (arith, n))) in
+        let n : length (directory_item_bytes kind x) + length (content kind xs) ≡ 0 =
+        sym (length-append (directory_item_bytes kind x) (content kind xs)) ∙ ap length e in
+        let a = item_blank front x (nil_from_length (directory_item_bytes kind x) (omega (arith, n))) in
         let b = items_blank front xs (nil_from_length (content kind xs) (omega (arith, n))) in (
           filter-append (λ s. not s.later) (item_leaves front x) (leaves front xs)
               ∙ ap (λ (l : List Staged). l ++ standing (leaves front xs)) a.0 ∙ b.0,
@@ -99,7 +100,8 @@ module _ (find : ObjectId → Found) (check : Check) (kind : Kind) where
         )
 
   mutual
-    item_yields : (front : List ℕ) (x : Item) (es : List TreeEntry) (n : ℕ) (r : LeavesAnswer) → IsItem kind x
+    item_yields : (front : List ℕ) (x : DirectoryItem) (es : List TreeEntry) (n : ℕ) (r : LeavesAnswer)
+        → IsDirectoryItem kind x
         → ItemPasses check x → AllByRecursion IsFile (item_leaves front x)
         → AllByRecursion IsThere (item_objects kind x)
         → Yields find check kind n (some_entries front es) r
@@ -162,7 +164,7 @@ module _ (find : ObjectId → Found) (check : Check) (kind : Kind) where
             (Ok (map leaf_record (standing (leaves (front ++ key name kinds.Tree) items)), n)))
             (sym (append_assoc front name (47 ∷ []))) whole) y))
 
-    pub items_yields : (front : List ℕ) (items : Items) (n : ℕ) → AreItems kind items
+    pub items_yields : (front : List ℕ) (items : DirectoryItems) (n : ℕ) → AreDirectoryItems kind items
         → NamesPass check items → AllByRecursion IsFile (leaves front items)
         → AllByRecursion IsThere (objects_below kind items)
         → Yields find check kind (length (objects_below kind items) + n) (some_entries front (listed kind items))
@@ -215,7 +217,7 @@ reads_back find check kind staged items most t files there passes enough =
           (whole_tree [] (items_id kind items)) (Ok (rs, left))) same whole)),
     )
 
--- what was put behind others was taken
+-- objects that were put after others were taken
 held_of : (find : ObjectId → Found) (before : Taken) (written taken : List (ObjectId × List ℕ))
     → with_objects before written ≡ Some taken → HoldsTrees find taken → HoldsTrees find written
 held_of find None written taken e held = absurd cc

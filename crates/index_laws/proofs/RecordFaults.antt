@@ -1,4 +1,4 @@
--- Each record fits behind those before it, or has one fault.
+-- Each record is valid after those before it, or has exactly one error.
 use Rattle.std.proofs.Common.{◌≡◌, ◌⊎◌, inl, inr, ℕ, List, [], ◌∷◌, ◌++◌, All, AllPairs, Bool, true, false, Contains}
 use Rattle.std.proofs.Common.{Option, Some, None, length, get_or, refl, sym, ap, subst, ◌∙◌, arith}
 use Rattle.std.specs.Prelude.{if◌then◌else◌}
@@ -11,20 +11,21 @@ use Rattle.std.proofs.lemmas.Option.{same_Some}
 use Rattle.index_parts.specs.Id.{id_bytes, id_kind, id_len, is_null}
 use Rattle.index_parts.specs.declared.hash.Kind.{Kind}
 use Rattle.index_parts.specs.declared.hash.Kind.TheVariants as hashes
-use Rattle.index_metadata.specs.Flags.{stage_number}
-use Rattle.index_objects.specs.Mode.{named_kind}
-use Rattle.index_objects.specs.declared.object.tree.EntryKind.{EntryKind}
-use Rattle.index_entries.specs.EntryImage.{is_removed}
-use Rattle.index_entries.specs.Order.{path_cmp, record_cmp}
-use Rattle.index_entries.specs.Record.{IsSized, Record}
-use Rattle.index_tree_writer.specs.Refusals.{LieApart, AreFit, Check, RecordHasFault, HasPath, IsFit, IsMergedRecord}
-use Rattle.index_tree_writer.specs.Refusals.{IsMisnamed, IsTreePath, LiesIn, Refusal, Unmerged, Mode, Path, OtherKind}
-use Rattle.index_tree_writer.specs.Refusals.{NullId, Both, unmerged, other_mode, misnamed, other_kind, null_id, both}
-use Rattle.index_tree_writer.specs.Staged.{Staged, is_intended, staged_entry, staged_in}
-use Rattle.index_tree_writer.specs.declared.error.NameFault.{NameFault}
-use Rattle.index_tree_writer.proofs.Aparts.{pairs_last}
-use Rattle.index_tree_writer.proofs.Checked.{staged_rise}
-use Rattle.index_tree_writer.proofs.Ranges.{one_of}
+use Rattle.entry_fields.specs.Flags.{stage_number}
+use Rattle.base_objects.specs.Mode.{named_kind}
+use Rattle.base_objects.specs.declared.object.tree.EntryKind.{EntryKind}
+use Rattle.entry_list.specs.EntryImage.{is_removed}
+use Rattle.entry_list.specs.Order.{path_cmp, record_cmp}
+use Rattle.entry_list.specs.Record.{IsSized, Record}
+use Rattle.tree_encode.specs.Refusals.{AreDisjointPaths, AreFit, NameCheck, RecordHasFault, HasPath, IsTreeRecord}
+use Rattle.tree_encode.specs.Refusals.{IsMergedRecord}
+use Rattle.tree_encode.specs.Refusals.{IsMisnamed, IsTreePath, LiesIn, Refusal, Unmerged, Mode, Path, OtherKind}
+use Rattle.tree_encode.specs.Refusals.{NullId, Both, unmerged, other_mode, misnamed, other_kind, null_id, both}
+use Rattle.tree_encode.specs.Staged.{Staged, is_intended, staged_entry, staged_in}
+use Rattle.tree_encode.specs.declared.error.NameFault.{NameFault}
+use Rattle.tree_encode.proofs.Aparts.{pairs_last}
+use Rattle.tree_encode.proofs.Checked.{staged_rise}
+use Rattle.tree_encode.proofs.Ranges.{one_of}
 use Rattle.index_laws.proofs.TreeNames.{misnamed_one, path_judged, path_not_misnamed, same_or_other}
 use Rattle.index_laws.proofs.PathsApart.{IsInOne, some_judged, one_file, not_itself, apart_more}
 
@@ -68,17 +69,17 @@ rising_front a b h i j d lt within =
     subst (λ (q : Record). record_cmp (get_or a i d) q ≡ Less) y (subst (λ (r : Record). record_cmp r
     (get_or (a ++ b) j d) ≡ Less) x (h i j d lt (omega (arith, within, length-append a b))))
 
-module _ (check : Check) (kind : Kind) where
+module _ (check : NameCheck) (kind : Kind) where
   pub fit_none : AreFit check kind []
   fit_none = record {
-    each = All-nil (IsFit check kind);
+    each = All-nil (IsTreeRecord check kind);
     apart =
         record { below = λ s t a b h. absurd (omega (arith, a.1)); inside = λ s t a b h. absurd (omega (arith, a.1)) };
   }
 
   pub fit_front : (a b : List Record) → AreFit check kind (a ++ b) → AreFit check kind a
   fit_front a b h = record {
-    each = λ k d within. subst (IsFit check kind) (get_or_append_left a b d k within)
+    each = λ k d within. subst (IsTreeRecord check kind) (get_or_append_left a b d k within)
         (h.each k d (omega (arith, within, length-append a b)));
     apart = record {
       below = λ s t c d. h.apart.below s t (front s c) (front t d);
@@ -90,51 +91,52 @@ module _ (check : Check) (kind : Kind) where
       front s c = subst (λ (l : List Staged). Contains l s) (sym (filter_map-append staged_entry a b))
           (Contains-append_left (staged_in a) (staged_in b) s c)
 
-  -- ---- a record fits by itself, or has a fault wherever it stands
+  -- ---- a record is valid by itself, or has an error at every index
 
   abbrev HasFaultAnywhere : Record → Type 0
   HasFaultAnywhere r = (f : Refusal) × ((before : List Staged) → RecordHasFault check kind before r f)
 
   module _ (r : Record) (len : length (id_bytes r.id) ≡ id_len (id_kind r.id)) where
     object_judged : (k : EntryKind) → IsMergedRecord r → HasPath check r k → (id_kind r.id ≡ kind)
-        ⊎ (id_kind r.id ≡ kind → ⊥) → (b : Bool) → is_null (id_bytes r.id) ≡ b → IsFit check kind r ⊎ HasFaultAnywhere r
+        ⊎ (id_kind r.id ≡ kind → ⊥) → (b : Bool) → is_null (id_bytes r.id) ≡ b
+        → IsTreeRecord check kind r ⊎ HasFaultAnywhere r
     object_judged k m p (inr o) b e = inr (OtherKind r.path, λ before. other_kind k m p o)
     object_judged k m p (inl s) true e = inr (NullId r.path, λ before. null_id k m p s (λ z. absurd (cc (e, z))))
     object_judged k m p (inl s) false e = inl (λ d. (m.1, (k, p), (s, len ∙ ap id_len s), e))
 
     path_judged_of : (k : EntryKind) → IsMergedRecord r → named_kind r.mode ≡ Some k → IsTreePath check 2048 k r.path
-        ⊎ ((f : NameFault) × IsMisnamed check 2048 k r.path f) → IsFit check kind r ⊎ HasFaultAnywhere r
+        ⊎ ((f : NameFault) × IsMisnamed check 2048 k r.path f) → IsTreeRecord check kind r ⊎ HasFaultAnywhere r
     path_judged_of k m n (inr b) = inr (Path r.path b.0, λ before. misnamed k b.0 m n b.1)
     path_judged_of k m n (inl p) =
         object_judged k m (n, p) (kind_judged (id_kind r.id) kind) (is_null (id_bytes r.id)) refl
 
     mode_judged : IsMergedRecord r → (o : Option EntryKind) → named_kind r.mode ≡ o
-        → IsFit check kind r ⊎ HasFaultAnywhere r
+        → IsTreeRecord check kind r ⊎ HasFaultAnywhere r
     mode_judged m None e = inr (Mode r.path r.mode, λ before. other_mode m e)
     mode_judged m (Some k) e = path_judged_of k m e (path_judged check 2048 k r.path)
 
     stage_judged : is_removed r.flags ≡ false → (stage_number r.flags ≡ 0) ⊎ (stage_number r.flags ≡ 0 → ⊥)
-        → IsFit check kind r ⊎ HasFaultAnywhere r
+        → IsTreeRecord check kind r ⊎ HasFaultAnywhere r
     stage_judged d (inr o) = inr (Unmerged r.path, λ before. unmerged d o)
     stage_judged d (inl z) = mode_judged (d, z) (named_kind r.mode) refl
 
-    record_judged : (b : Bool) → is_removed r.flags ≡ b → IsFit check kind r ⊎ HasFaultAnywhere r
+    record_judged : (b : Bool) → is_removed r.flags ≡ b → IsTreeRecord check kind r ⊎ HasFaultAnywhere r
     record_judged true e = inl (λ d. absurd (cc (e, d)))
     record_judged false e = stage_judged e (same_or_other (stage_number r.flags) 0)
 
-  -- ---- and behind others
+  -- ---- and after other records
 
   module _ (before : List Record) (r : Record) (fit : AreFit check kind before) (rising : Rising (before ++ r ∷ []))
-      (now : IsFit check kind r) where
-    each : All (IsFit check kind) (before ++ r ∷ [])
-    each = All-push (IsFit check kind) before r fit.each now
+      (now : IsTreeRecord check kind r) where
+    each : All (IsTreeRecord check kind) (before ++ r ∷ [])
+    each = All-push (IsTreeRecord check kind) before r fit.each now
 
     behind_judged : (b : Bool) → is_removed r.flags ≡ b
         → AreFit check kind (before ++ r ∷ []) ⊎ ((f : Refusal) × RecordHasFault check kind (staged_in before) r f)
     behind_judged true e =
         let same : staged_in (before ++ r ∷ []) ≡ staged_in before =
         staged_more before r None (removed_none r e) ∙ append-nil (staged_in before) in
-        inl (record { each = each; apart = subst LieApart (sym same) fit.apart })
+        inl (record { each = each; apart = subst AreDisjointPaths (sym same) fit.apart })
     behind_judged false e = by (some_judged r.path (staged_in before))
       where
         k : EntryKind
@@ -153,7 +155,7 @@ module _ (check : Check) (kind : Kind) where
         by (inl l) = inr (Both l.0.path r.path, both l.0 e now l.1 l.2)
         by (inr n) = inl (record {
           each = each;
-          apart = subst LieApart (sym same) (apart_more (staged_in before) (staged_as r k) fit.apart rise n);
+          apart = subst AreDisjointPaths (sym same) (apart_more (staged_in before) (staged_as r k) fit.apart rise n);
         })
 
   pub next_judged : (before : List Record) (r : Record) → AreFit check kind before → Rising (before ++ r ∷ [])
@@ -161,7 +163,7 @@ module _ (check : Check) (kind : Kind) where
       → AreFit check kind (before ++ r ∷ []) ⊎ ((f : Refusal) × RecordHasFault check kind (staged_in before) r f)
   next_judged before r fit rising sized = by (record_judged r sized.id (is_removed r.flags) refl)
     where
-      by : IsFit check kind r ⊎ HasFaultAnywhere r
+      by : IsTreeRecord check kind r ⊎ HasFaultAnywhere r
           → AreFit check kind (before ++ r ∷ []) ⊎ ((f : Refusal) × RecordHasFault check kind (staged_in before) r f)
       by (inl now) = behind_judged before r fit rising now (is_removed r.flags) refl
       by (inr f) = inr (f.0, f.1 (staged_in before))
@@ -184,8 +186,8 @@ module _ (check : Check) (kind : Kind) where
   one_name r k j f g n h m i = misnamed_one check 2048 k r.path f g h
       (subst (λ (l : EntryKind). IsMisnamed check 2048 l r.path g) (sym (one_kind r k j n m)) i)
 
-  -- the fault of a record behind others is one
-  pub fault_one : (before : List Staged) (r : Record) → LieApart before → (f g : Refusal)
+  -- a record after others has at most one error
+  pub fault_one : (before : List Staged) (r : Record) → AreDisjointPaths before → (f g : Refusal)
       → RecordHasFault check kind before r f → RecordHasFault check kind before r g → f ≡ g
   fault_one before r apart f g (unmerged a1 b1) (unmerged a2 b2) = refl
   fault_one before r apart f g (unmerged a1 b1) (other_mode m2 n2) = absurd (b1 m2.1)
@@ -234,13 +236,13 @@ module _ (check : Check) (kind : Kind) where
   fault_one before r apart f g (both t1 a1 i1 c1 l1) (both t2 a2 i2 c2 l2) =
       ap (λ (p : List ℕ). Both p r.path) (one_file before apart r.path t1 t2 c1 c2 l1 l2)
 
-  -- what fits behind others has none
+  -- a record that is valid after others has no error
   pub fit_no_fault : (before : List Record) (r : Record) (f : Refusal) → AreFit check kind (before ++ r ∷ [])
       → Rising (before ++ r ∷ []) → RecordHasFault check kind (staged_in before) r f → ⊥
   fit_no_fault before r f fit rising h =
-      by f (All-contains (IsFit check kind) (before ++ r ∷ []) r fit.each (Contains-push before r)) h
+      by f (All-contains (IsTreeRecord check kind) (before ++ r ∷ []) r fit.each (Contains-push before r)) h
     where
-      lies : IsFit check kind r → is_removed r.flags ≡ false → (s : Staged) → Contains (staged_in before) s
+      lies : IsTreeRecord check kind r → is_removed r.flags ≡ false → (s : Staged) → Contains (staged_in before) s
           → LiesIn r.path s → ⊥
       lies now e s c l = split l
         where
@@ -268,7 +270,7 @@ module _ (check : Check) (kind : Kind) where
               let e : r.path ≡ s.path = fit.apart.inside s x old new i in
               not_itself s.path (subst (λ (p : List ℕ). path_cmp s.path p ≡ Less) e rise)
 
-      by : (g : Refusal) → IsFit check kind r → RecordHasFault check kind (staged_in before) r g → ⊥
+      by : (g : Refusal) → IsTreeRecord check kind r → RecordHasFault check kind (staged_in before) r g → ⊥
       by g now (unmerged a b) = b (now a).0
       by g now (other_mode m n) = not_named r (now m.0).1.0 n (now m.0).1.1.0
       by g now (misnamed k e m n i) = named_not_misnamed r k (now m.0).1.0 e n i (now m.0).1.1

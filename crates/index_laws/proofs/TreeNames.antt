@@ -5,15 +5,15 @@ use Rattle.std.specs.Prelude.{◌≢◌}
 use Rattle.std.proofs.lemmas.Bool.{eqb-false, eqb-true}
 use Rattle.std.proofs.lemmas.List.Elements.{All-cons, All-head, All-nil, All-tail}
 use Rattle.std.proofs.lemmas.Option.{same_Some}
-use Rattle.index_objects.specs.declared.object.tree.EntryKind.{EntryKind}
-use Rattle.index_objects.specs.declared.object.tree.EntryKind.TheVariants as kinds
-use Rattle.index_objects.specs.NameCheck.{refusal_as}
-use Rattle.index_tree_writer.specs.Directory.{IsName}
-use Rattle.index_tree_writer.specs.Refusals.{Check, IsBadName, IsMisnamed, IsTreePath, of_file, of_directory, beneath}
-use Rattle.index_tree_writer.specs.Refusals.{last_name, some_name, no_slash, deep, later_name}
-use Rattle.index_tree_writer.specs.declared.error.NameFault.{NameFault}
-use Rattle.index_tree_writer.specs.declared.error.NameFault.TheVariants as faults
-use Rattle.index_tree_writer.proofs.PathNames.{NoSlash, bad_front, first_slash, no_slash_in, path_whole, too_deep}
+use Rattle.base_objects.specs.declared.object.tree.EntryKind.{EntryKind}
+use Rattle.base_objects.specs.declared.object.tree.EntryKind.TheVariants as kinds
+use Rattle.base_objects.specs.NameCheck.{refusal_as}
+use Rattle.tree_encode.specs.Directory.{IsPathComponent}
+use Rattle.tree_encode.specs.Refusals.{NameCheck, IsBadName, IsMisnamed, IsTreePath, of_file, of_directory, beneath}
+use Rattle.tree_encode.specs.Refusals.{last_name, some_name, no_slash, deep, later_name}
+use Rattle.tree_encode.specs.declared.error.NameFault.{NameFault}
+use Rattle.tree_encode.specs.declared.error.NameFault.TheVariants as faults
+use Rattle.tree_encode.proofs.PathNames.{NoSlash, bad_front, first_slash, no_slash_in, path_whole, too_deep}
 
 -- ---- one or another
 
@@ -35,7 +35,7 @@ none_or_some : (l : List ℕ) → (l ≡ []) ⊎ (l ≡ [] → ⊥)
 none_or_some [] = inl refl
 none_or_some (c ∷ l) = inr (λ e. absurd cc)
 
--- a path up to its first slash, and behind it
+-- a path up to its first slash, and after it
 abbrev IsCutAt : List ℕ → Type 0
 IsCutAt path = (name rest : List ℕ) × NoSlash name × (path ≡ name ++ 47 ∷ rest)
 
@@ -61,17 +61,18 @@ no_nul (c ∷ name) = by (same_or_other c 0) (no_nul name)
 -- ---- names
 
 -- a name that the check lets pass
-abbrev IsGood : Check → List ℕ → EntryKind → Type 0
-IsGood check name k = IsName name × (refusal_as check name k ≡ None)
+abbrev IsGood : NameCheck → List ℕ → EntryKind → Type 0
+IsGood check name k = IsPathComponent name × (refusal_as check name k ≡ None)
 
-abbrev HasBad : Check → List ℕ → EntryKind → Type 0
+abbrev HasBad : NameCheck → List ℕ → EntryKind → Type 0
 HasBad check name k = (f : NameFault) × IsBadName check name k f
 
-good_or_bad : (check : Check) (name : List ℕ) (k : EntryKind) → NoSlash name → IsGood check name k ⊎ HasBad check name k
+good_or_bad : (check : NameCheck) (name : List ℕ) (k : EntryKind) → NoSlash name
+    → IsGood check name k ⊎ HasBad check name k
 good_or_bad check [] k h = inr (faults.Empty, refl)
 good_or_bad check (c ∷ name) k h = by (no_nul (c ∷ name)) (refusal_as check (c ∷ name) k) refl
   where
-    named : All (λ b. b ≢ 0) (c ∷ name) → IsName (c ∷ name)
+    named : All (λ b. b ≢ 0) (c ∷ name) → IsPathComponent (c ∷ name)
     named a = record { some = λ e. absurd cc; apart = a; component = h }
 
     by : All (λ b. b ≢ 0) (c ∷ name) ⊎ (All (λ b. b ≢ 0) (c ∷ name) → ⊥) → (o : Option ℕ)
@@ -80,7 +81,7 @@ good_or_bad check (c ∷ name) k h = by (no_nul (c ∷ name)) (refusal_as check 
     by (inl a) None e = inl (named a, e)
     by (inl a) (Some number) e = inr (faults.Refused number, (named a, e))
 
-good_not_bad : (check : Check) (name : List ℕ) (k : EntryKind) (f : NameFault) → IsGood check name k
+good_not_bad : (check : NameCheck) (name : List ℕ) (k : EntryKind) (f : NameFault) → IsGood check name k
     → IsBadName check name k f → ⊥
 good_not_bad check name k faults.Empty g b = g.0.some b
 good_not_bad check name k faults.Nul g b = b g.0.apart
@@ -88,7 +89,7 @@ good_not_bad check name k (faults.Refused number) g b = let e : None ≡ Some nu
 good_not_bad check name k faults.NoSlash g b = b
 good_not_bad check name k faults.TooDeep g b = b
 
-one_bad : (check : Check) (name : List ℕ) (k : EntryKind) (f g : NameFault) → IsBadName check name k f
+one_bad : (check : NameCheck) (name : List ℕ) (k : EntryKind) (f g : NameFault) → IsBadName check name k f
     → IsBadName check name k g → f ≡ g
 one_bad check name k faults.Empty faults.Empty a b = refl
 one_bad check name k faults.Empty faults.Nul a b = absurd (b (subst (All (λ c. c ≢ 0)) (sym a) (All-nil (λ c. c ≢ 0))))
@@ -110,10 +111,10 @@ one_bad check name k faults.TooDeep g a b = absurd a
 
 -- ---- a path, or its fault
 
-abbrev HasMisnamed : Check → ℕ → EntryKind → List ℕ → Type 0
+abbrev HasMisnamed : NameCheck → ℕ → EntryKind → List ℕ → Type 0
 HasMisnamed check levels k path = (f : NameFault) × IsMisnamed check levels k path f
 
-last_judged : (check : Check) (levels : ℕ) (k : EntryKind) (path : List ℕ) → NoSlash path
+last_judged : (check : NameCheck) (levels : ℕ) (k : EntryKind) (path : List ℕ) → NoSlash path
     → IsTreePath check levels k path ⊎ HasMisnamed check levels k path
 last_judged check levels k path h = by (tree_or_file k) (good_or_bad check path k h)
   where
@@ -130,7 +131,7 @@ last_judged check levels k path h = by (tree_or_file k) (good_or_bad check path 
               (no_slash levels path g.0 passes),
         )
 
-module _ (check : Check) (k : EntryKind) (path name rest : List ℕ) (e : path ≡ name ++ 47 ∷ rest)
+module _ (check : NameCheck) (k : EntryKind) (path name rest : List ℕ) (e : path ≡ name ++ 47 ∷ rest)
     (cut : NoSlash name) where
   top_judged : IsTreePath check zero k path ⊎ HasMisnamed check zero k path
   top_judged = by (good_or_bad check name kinds.Tree cut)
@@ -165,7 +166,7 @@ module _ (check : Check) (k : EntryKind) (path name rest : List ℕ) (e : path �
       by (inr b) = inr (b.0, bad_front check k path name rest e (suc l) b.0 cut b.1)
       by (inl g) = good (tree_or_file k) (none_or_some rest) g
 
-pub path_judged : (check : Check) (levels : ℕ) (k : EntryKind) (path : List ℕ)
+pub path_judged : (check : NameCheck) (levels : ℕ) (k : EntryKind) (path : List ℕ)
     → IsTreePath check levels k path ⊎ HasMisnamed check levels k path
 path_judged check zero k path = by (cut_path path)
   where
@@ -182,11 +183,11 @@ path_judged check (suc l) k path = by (path_judged check l k) (cut_path path)
 -- ---- one fault
 
 -- the fault of a path that is one name
-abbrev IsLone : Check → EntryKind → List ℕ → NameFault → Type 0
+abbrev IsLone : NameCheck → EntryKind → List ℕ → NameFault → Type 0
 IsLone check k path f =
     IsBadName check path k f ⊎ ((k ≡ kinds.Tree) × IsGood check path kinds.Tree × (f ≡ faults.NoSlash))
 
-lone : (check : Check) (levels : ℕ) (k : EntryKind) (path : List ℕ) (f : NameFault) → NoSlash path
+lone : (check : NameCheck) (levels : ℕ) (k : EntryKind) (path : List ℕ) (f : NameFault) → NoSlash path
     → IsMisnamed check levels k path f → IsLone check k path f
 lone check levels k path f h (last_name l j name g n b) = inl b
 lone check levels k path f h (some_name l j name rest g n b) = absurd (no_slash_in (name ++ 47 ∷ rest) name rest h refl)
@@ -195,7 +196,7 @@ lone check levels k path f h (deep j name rest n r) = absurd (no_slash_in (name 
 lone check levels k path f h (later_name l j name rest g n r o i) =
     absurd (no_slash_in (name ++ 47 ∷ rest) name rest h refl)
 
-one_lone : (check : Check) (k : EntryKind) (path : List ℕ) (f g : NameFault) → IsLone check k path f
+one_lone : (check : NameCheck) (k : EntryKind) (path : List ℕ) (f g : NameFault) → IsLone check k path f
     → IsLone check k path g → f ≡ g
 one_lone check k path f g (inl a) (inl b) = one_bad check path k f g a b
 one_lone check k path f g (inl a) (inr t) =
@@ -205,7 +206,7 @@ one_lone check k path f g (inr t) (inl b) =
 one_lone check k path f g (inr t) (inr u) = t.2 ∙ sym u.2
 
 -- the fault of a path that has a slash
-data Fronted (check : Check) (levels : ℕ) (k : EntryKind) (name rest : List ℕ) (f : NameFault) : Type 0 where
+data Fronted (check : NameCheck) (levels : ℕ) (k : EntryKind) (name rest : List ℕ) (f : NameFault) : Type 0 where
   bad : IsBadName check name kinds.Tree f → Fronted check levels k name rest f
   low : levels ≡ 0 → IsGood check name kinds.Tree → f ≡ faults.TooDeep → Fronted check levels k name rest f
   later : (l : ℕ) → levels ≡ suc l → IsGood check name kinds.Tree → (k ≢ kinds.Tree) ⊎ (rest ≢ [])
@@ -214,7 +215,7 @@ data Fronted (check : Check) (levels : ℕ) (k : EntryKind) (name rest : List �
 later_same : (k : EntryKind) (r rest : List ℕ) → r ≡ rest → (k ≢ kinds.Tree) ⊎ (r ≢ []) → (k ≢ kinds.Tree) ⊎ (rest ≢ [])
 later_same k r rest e o = subst (λ (x : List ℕ). (k ≢ kinds.Tree) ⊎ (x ≢ [])) e o
 
-fronted : (check : Check) (levels : ℕ) (k : EntryKind) (path name rest : List ℕ) (f : NameFault)
+fronted : (check : NameCheck) (levels : ℕ) (k : EntryKind) (path name rest : List ℕ) (f : NameFault)
     → path ≡ name ++ 47 ∷ rest → NoSlash name → IsMisnamed check levels k path f → Fronted check levels k name rest f
 fronted check levels k path name rest f e h (last_name l j n g s b) = absurd (no_slash_in n name rest s e)
 fronted check levels k path name rest f e h (some_name l j n r g s b) =
@@ -229,7 +230,7 @@ fronted check levels k path name rest f e h (later_name l j n r g m q o i) =
     later l refl (subst (λ (x : List ℕ). IsGood check x kinds.Tree) same.0 (m, q)) (later_same j r rest same.1 o)
     (subst (λ (x : List ℕ). IsMisnamed check l j x g) same.1 i)
 
-one_fronted : (check : Check) (levels : ℕ) (k : EntryKind) (name rest : List ℕ) (f g : NameFault)
+one_fronted : (check : NameCheck) (levels : ℕ) (k : EntryKind) (name rest : List ℕ) (f g : NameFault)
     → ((l : ℕ) → levels ≡ suc l → IsMisnamed check l k rest f → IsMisnamed check l k rest g → f ≡ g)
     → Fronted check levels k name rest f → Fronted check levels k name rest g → f ≡ g
 one_fronted check levels k name rest f g again (bad a) (bad b) = one_bad check name kinds.Tree f g a b
@@ -246,7 +247,7 @@ one_fronted check levels k name rest f g again (later l z t o i) (later m y u p 
     let same : m ≡ l = omega (arith, z, y) in
     again l z i (subst (λ (x : ℕ). IsMisnamed check x k rest g) same j)
 
-pub misnamed_one : (check : Check) (levels : ℕ) (k : EntryKind) (path : List ℕ) (f g : NameFault)
+pub misnamed_one : (check : NameCheck) (levels : ℕ) (k : EntryKind) (path : List ℕ) (f g : NameFault)
     → IsMisnamed check levels k path f → IsMisnamed check levels k path g → f ≡ g
 misnamed_one check zero k path f g a b = by (cut_path path)
   where
@@ -266,7 +267,7 @@ misnamed_one check (suc n) k path f g a b = by (λ p. misnamed_one check n k p f
         (fronted check (suc n) k path s.0 s.1 f s.3 s.2 a) (fronted check (suc n) k path s.0 s.1 g s.3 s.2 b)
 
 -- what is made of names has no fault
-pub path_not_misnamed : (check : Check) (levels : ℕ) (k : EntryKind) (path : List ℕ) (f : NameFault)
+pub path_not_misnamed : (check : NameCheck) (levels : ℕ) (k : EntryKind) (path : List ℕ) (f : NameFault)
     → IsTreePath check levels k path → IsMisnamed check levels k path f → ⊥
 path_not_misnamed check levels k path f (of_file l j name t n r) m = by (lone check l j name f n.component m)
   where

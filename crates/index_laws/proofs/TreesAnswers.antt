@@ -5,15 +5,15 @@ use Rattle.std.specs.Prelude.{Ok, Err}
 use Rattle.std.proofs.lemmas.List.{append-nil}
 use Rattle.std.proofs.lemmas.List.Elements.{All-head, All-tail}
 use Rattle.index_parts.specs.declared.hash.Kind.{Kind}
-use Rattle.index_entries.specs.Order.{IsStrictlyOrdered}
-use Rattle.index_entries.specs.Record.{IsSized, Record}
-use Rattle.index_tree_writer.specs.Directory.{IsTreeOf, Items}
-use Rattle.index_tree_writer.specs.Refusals.{AreFit, Check, RecordHasFault, AreRefused, Refusal, TooMany, too_many}
-use Rattle.index_tree_writer.specs.Refusals.{first}
-use Rattle.index_tree_writer.specs.Staged.{staged_in}
-use Rattle.index_tree_writer.specs.WritingSteps.{IsReady}
-use Rattle.index_tree_writer.proofs.OneTree.{same_items}
-use Rattle.index_tree_writer.proofs.Whole.{ready_whole, whole_below}
+use Rattle.entry_list.specs.Order.{IsStrictlyOrdered}
+use Rattle.entry_list.specs.Record.{IsSized, Record}
+use Rattle.tree_encode.specs.Directory.{IsTreeOf, DirectoryItems}
+use Rattle.tree_encode.specs.Refusals.{AreFit, NameCheck, RecordHasFault, AreRefused, Refusal, TooMany, too_many}
+use Rattle.tree_encode.specs.Refusals.{first}
+use Rattle.tree_encode.specs.Staged.{staged_in}
+use Rattle.tree_encode.specs.WritingSteps.{IsReady}
+use Rattle.tree_encode.proofs.OneTree.{same_items}
+use Rattle.tree_encode.proofs.Whole.{ready_whole, whole_below}
 use Rattle.index_laws.specs.TreesAnswer.{IsTreesAnswer, TreesAnswer}
 use Rattle.index_laws.proofs.RecordFaults.{Rising, fault_one, fit_front, fit_no_fault, fit_none, next_judged}
 use Rattle.index_laws.proofs.RecordFaults.{rising_front}
@@ -28,7 +28,7 @@ few_or_many (suc a) (suc b) = by (few_or_many a b)
     by (inl l) = inl (omega (arith, l))
     by (inr l) = inr (omega (arith, l))
 
-module _ (check : Check) (kind : Kind) where
+module _ (check : NameCheck) (kind : Kind) where
   -- the first of records that has a fault
   record HasFirst (rs : List Record) (f : Refusal) : Type 0 where
     before : List Record
@@ -63,7 +63,7 @@ module _ (check : Check) (kind : Kind) where
   answer_some rs ordered sized =
       by (few_or_many (length rs) (2 ^ 31)) (judged rs [] (fit_none check kind) ordered.less sized)
     where
-      made : AreFit check kind rs → (items : Items) × IsTreeOf kind (staged_in rs) items
+      made : AreFit check kind rs → (items : DirectoryItems) × IsTreeOf kind (staged_in rs) items
       made fit = tree_of kind 2048 (staged_in rs)
           (subst (IsReady kind 2048) (whole_below rs) (ready_whole check kind rs ordered fit))
 
@@ -74,7 +74,7 @@ module _ (check : Check) (kind : Kind) where
 
   -- ---- no second
 
-  -- of two records of a list, both are one, or one stands before the other
+  -- two records of a list are the same one, or one is before the other
   data AreTwo (a c : List Record) (x y : Record) : Type 0 where
     same : a ≡ c → x ≡ y → AreTwo a c x y
     earlier : (m : List Record) → c ≡ a ++ x ∷ m → AreTwo a c x y

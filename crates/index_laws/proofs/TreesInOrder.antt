@@ -3,15 +3,15 @@ use Rattle.std.proofs.Common.{ℕ, List, Option, Some, None, Ok, subst, sym}
 use Rattle.std.specs.Prelude.{IfSome}
 use Rattle.index_parts.specs.declared.hash.Kind.{Kind}
 use Rattle.index_parts.specs.declared.hash.ObjectId.{ObjectId}
-use Rattle.index_metadata.specs.declared.entry.stat.FileTime.{FileTime}
-use Rattle.index_cached_tree.specs.Tree.{IsTree, Node}
+use Rattle.entry_fields.specs.declared.entry.stat.FileTime.{FileTime}
+use Rattle.ext_tree.specs.Tree.{IsTree, Node}
 use Rattle.index_extensions.specs.ExtensionValue.{IsValue}
-use Rattle.index_tree_writer.specs.Kept.{HasNamesInOrder}
-use Rattle.index_tree_writer.proofs.Keeps.{sorts_in_order}
-use Rattle.index_format.specs.Answer.{IsAnswer}
-use Rattle.index_format.specs.Contents.{Contents}
-use Rattle.index_format.specs.declared.decode.Options.{Options}
-use Rattle.index_format.proofs.ReadValues.{value_is}
+use Rattle.tree_encode.specs.Kept.{HasNamesInOrder}
+use Rattle.tree_encode.proofs.Keeps.{sorts_in_order}
+use Rattle.index_model.specs.Answer.{IsAnswer}
+use Rattle.index_model.specs.Contents.{Contents}
+use Rattle.index_model.specs.declared.decode.Options.{Options}
+use Rattle.index_model.proofs.ReadValues.{value_is}
 
 value_in_order : (kind : Kind) (limit : Option ℕ) (content : Option (List ℕ)) (value : Option Node)
     → IsValue (IsTree kind limit) content value → IfSome value HasNamesInOrder

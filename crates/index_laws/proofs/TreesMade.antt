@@ -1,4 +1,4 @@
--- What is ready to be written has a directory: leaves are put in front of those behind them, one by one.
+-- What is ready to be written has a directory: leaves are put before those after them, one by one.
 use Rattle.std.proofs.Common.{◌≡◌, ◌⊎◌, inl, inr, ℕ, suc, ◌-◌, List, [], ◌∷◌, ◌++◌, All, Bool, map, get_or, refl, sym}
 use Rattle.std.proofs.Common.{ap, subst, ◌∙◌, append_assoc, arith}
 use Rattle.std.specs.Prelude.{◌≢◌}
@@ -11,22 +11,23 @@ use Rattle.std.proofs.lemmas.List.Kept.{AllPairs-cons}
 use Rattle.std.proofs.lemmas.Map.Lookups.{exact_bytes}
 use Rattle.index_parts.specs.declared.hash.Kind.{Kind}
 use Rattle.index_parts.specs.declared.hash.ObjectId.{ObjectId}
-use Rattle.index_objects.specs.TreeObject.{TreeEntry}
-use Rattle.index_objects.specs.declared.object.tree.EntryKind.{EntryKind}
-use Rattle.index_objects.specs.declared.object.tree.EntryKind.TheVariants as kinds
-use Rattle.index_entries.specs.Order.{path_cmp}
-use Rattle.index_entries.specs.TreeOrder.{IsGitOrdered, sorted_name}
-use Rattle.index_tree_writer.specs.Directory.{Item, Items, leaf, directory, no_more, next, IsName, IsItem, AreItems}
-use Rattle.index_tree_writer.specs.Directory.{IsDirectory, IsTreeOf, entries, entry_of, item_leaves, leaves, key}
-use Rattle.index_tree_writer.specs.Refusals.{BeginsWith, Check, IsInside, IsTreePath, of_file, of_directory, beneath}
-use Rattle.index_tree_writer.specs.Staged.{Staged}
-use Rattle.index_tree_writer.specs.WritingSteps.{Ahead, IsComponent, IsLeaf, IsReady}
-use Rattle.index_tree_writer.proofs.Aparts.{not_after}
-use Rattle.index_tree_writer.proofs.Begun.{leaf_sorted}
-use Rattle.index_tree_writer.proofs.OneTree.{HasFirst, dir_leaves, first_of_items, slashed, tail_ordered}
-use Rattle.index_tree_writer.proofs.PathNames.{NoSlash, ahead_from, first_slash, no_slash_in, path_some}
-use Rattle.index_tree_writer.proofs.Ready.{ahead_directory, pairs_head, ready_back, ready_behind, ready_front}
-use Rattle.index_tree_writer.proofs.Pushes.{under}
+use Rattle.base_objects.specs.TreeObject.{TreeEntry}
+use Rattle.base_objects.specs.declared.object.tree.EntryKind.{EntryKind}
+use Rattle.base_objects.specs.declared.object.tree.EntryKind.TheVariants as kinds
+use Rattle.entry_list.specs.Order.{path_cmp}
+use Rattle.entry_list.specs.TreeOrder.{IsGitOrdered, sorted_name}
+use Rattle.tree_encode.specs.Directory.{DirectoryItem, DirectoryItems, leaf, directory, no_more, next, IsPathComponent}
+use Rattle.tree_encode.specs.Directory.{IsDirectoryItem, AreDirectoryItems}
+use Rattle.tree_encode.specs.Directory.{IsDirectory, IsTreeOf, entries, entry_of, item_leaves, leaves, key}
+use Rattle.tree_encode.specs.Refusals.{HasPathPrefix, NameCheck, IsInside, IsTreePath, of_file, of_directory, beneath}
+use Rattle.tree_encode.specs.Staged.{Staged}
+use Rattle.tree_encode.specs.WritingSteps.{Ahead, IsComponent, IsLeaf, IsReady}
+use Rattle.tree_encode.proofs.Aparts.{not_after}
+use Rattle.tree_encode.proofs.Begun.{leaf_sorted}
+use Rattle.tree_encode.proofs.OneTree.{HasFirst, dir_leaves, first_of_items, slashed, tail_ordered}
+use Rattle.tree_encode.proofs.PathNames.{NoSlash, ahead_from, first_slash, no_slash_in, path_some}
+use Rattle.tree_encode.proofs.Ready.{ahead_directory, pairs_head, ready_back, ready_behind, ready_front}
+use Rattle.tree_encode.proofs.Pushes.{under}
 
 abbrev Rises : Staged → Staged → Type 0
 Rises s t = path_cmp s.path t.path ≡ Less
@@ -61,7 +62,8 @@ all_front P xs ys h k d within =
     subst P (get_or_append_left xs ys d k within) (h k d (omega (arith, within, length-append xs ys)))
 
 -- a name that is below all leaves of an item is below that of the item
-item_above : (kind : Kind) (last : List ℕ) (x : Item) → IsItem kind x → All (Ahead last) (item_leaves [] x)
+item_above : (kind : Kind) (last : List ℕ) (x : DirectoryItem) → IsDirectoryItem kind x
+    → All (Ahead last) (item_leaves [] x)
     → path_cmp last (sorted_name (entry_of kind x)) ≡ Less
 item_above kind last (leaf name k id u) h a =
     let s : Staged = record { path = key name k; kind = k; id = id; later = u } in
@@ -82,7 +84,8 @@ item_above kind last (directory name items) h a = by (first_of_items kind items 
 abbrev IsAbove : List ℕ → TreeEntry → Type 0
 IsAbove last e = path_cmp last (sorted_name e) ≡ Less
 
-items_above : (kind : Kind) (last : List ℕ) (xs : Items) → AreItems kind xs → All (Ahead last) (leaves [] xs)
+items_above : (kind : Kind) (last : List ℕ) (xs : DirectoryItems) → AreDirectoryItems kind xs
+    → All (Ahead last) (leaves [] xs)
     → All (IsAbove last) (entries kind xs)
 items_above kind last no_more h a = All-nil (IsAbove last)
 items_above kind last (next x xs) h a =
@@ -102,14 +105,15 @@ ordered_head e es h k d within = h.less 0 (suc k) d (omega arith) (omega (arith,
 
 -- ---- an item in front
 
-item_name : (kind : Kind) (x : Item) → IsItem kind x → NoSlash (entry_of kind x).name
+item_name : (kind : Kind) (x : DirectoryItem) → IsDirectoryItem kind x → NoSlash (entry_of kind x).name
 item_name kind (leaf name k id u) h = h.0.component
 item_name kind (directory name items) h = h.0.component
 
 abbrev HasTree : Kind → List Staged → Type 0
-HasTree kind ss = (items : Items) × IsTreeOf kind ss items
+HasTree kind ss = (items : DirectoryItems) × IsTreeOf kind ss items
 
-put_first : (kind : Kind) (x : Item) (xs : Items) (shown : List ℕ) (ss : List Staged) → IsItem kind x
+put_first : (kind : Kind) (x : DirectoryItem) (xs : DirectoryItems) (shown : List ℕ) (ss : List Staged)
+    → IsDirectoryItem kind x
     → sorted_name (entry_of kind x) ≡ shown → item_leaves [] x ≡ ss → All (Ahead shown) (leaves [] xs)
     → IsDirectory kind xs → HasTree kind (ss ++ leaves [] xs)
 put_first kind x xs shown ss h is listed ahead dir =
@@ -129,8 +133,9 @@ abbrev here : List ℕ → EntryKind → ObjectId → Bool → Staged
 here path k id u = record { path = path; kind = k; id = id; later = u }
 
 -- a file
-put_file : (kind : Kind) (check : Check) (levels : ℕ) (k : EntryKind) (name : List ℕ) (id : ObjectId) (u : Bool)
-    (xs : Items) → k ≢ kinds.Tree → IsName name → IsReady kind levels (here name k id u ∷ leaves [] xs)
+put_file : (kind : Kind) (check : NameCheck) (levels : ℕ) (k : EntryKind) (name : List ℕ) (id : ObjectId) (u : Bool)
+    (xs : DirectoryItems) → k ≢ kinds.Tree → IsPathComponent name
+    → IsReady kind levels (here name k id u ∷ leaves [] xs)
     → IsDirectory kind xs → HasTree kind (here name k id u ∷ leaves [] xs)
 put_file kind check levels k name id u xs file named ready dir =
     let at = All-head (IsLeaf kind levels) (here name k id u) (leaves [] xs) ready.each in
@@ -140,8 +145,9 @@ put_file kind check levels k name id u xs file named ready dir =
     (λ i d within. ahead_from name (get_or (leaves [] xs) i d)
     (pairs_head Rises (here name k id u) (leaves [] xs) ready.rise i d within) (inl named.component)) dir
 
--- what stands for a whole directory
-put_whole : (kind : Kind) (levels : ℕ) (name : List ℕ) (id : ObjectId) (u : Bool) (xs : Items) → IsName name
+-- an item that represents a complete directory
+put_whole : (kind : Kind) (levels : ℕ) (name : List ℕ) (id : ObjectId) (u : Bool) (xs : DirectoryItems)
+    → IsPathComponent name
     → IsReady kind levels (here (slashed name) kinds.Tree id u ∷ leaves [] xs) → IsDirectory kind xs
     → HasTree kind (here (slashed name) kinds.Tree id u ∷ leaves [] xs)
 put_whole kind levels name id u xs named ready dir =
@@ -154,7 +160,7 @@ put_whole kind levels name id u xs named ready dir =
     (inr (name, refl, named.component, λ b. pairs_head Outside s (leaves [] xs) ready.outside i d within (refl, b))))
     dir
 
--- ---- what lies in a directory
+-- ---- the items in a directory
 
 leaf_begins : (name m x : List ℕ) (k : EntryKind) → NoSlash name → NoSlash m → key m k ≡ name ++ 47 ∷ x
     → key m k ≡ slashed name
@@ -165,11 +171,12 @@ leaf_begins name m x kinds.Link h g e = absurd (no_slash_in m name x g e)
 leaf_begins name m x kinds.Commit h g e = absurd (no_slash_in m name x g e)
 
 -- a first item that isn't the directory of a name has no first leaf in it
-first_stops : (kind : Kind) (name rest : List ℕ) (x : Item) (back : List Staged) → NoSlash name → IsItem kind x
-    → ((items : Items) → x ≡ directory name items → ⊥)
+first_stops : (kind : Kind) (name rest : List ℕ) (x : DirectoryItem) (back : List Staged) → NoSlash name
+    → IsDirectoryItem kind x
+    → ((items : DirectoryItems) → x ≡ directory name items → ⊥)
     → All (λ t. path_cmp (slashed name ++ rest) t.path ≡ Less) (item_leaves [] x ++ back)
     → (first : Staged) (others : List Staged) → item_leaves [] x ++ back ≡ first ∷ others
-    → BeginsWith first.path (slashed name) → ⊥
+    → HasPathPrefix first.path (slashed name) → ⊥
 first_stops kind name rest (leaf m k id u) back h g other less first others e b =
     let head : here (key m k) k id u ≡ first = cc in
     let path : key m k ≡ name ++ 47 ∷ b.0 = ap (λ (s : Staged). s.path) head ∙ b.1 ∙ append_assoc name (47 ∷ []) b.0 in
@@ -191,7 +198,8 @@ first_stops kind name rest (directory m js) back h g other less first others e b
         let same : m ≡ name = (first_slash m name f.first.path b.0 g.0.component h path).0 in
         other js (ap (λ (l : List ℕ). directory l js) same)
 
-module _ (kind : Kind) (l : ℕ) (name rest : List ℕ) (k : EntryKind) (id : ObjectId) (u : Bool) (named : IsName name)
+module _ (kind : Kind) (l : ℕ) (name rest : List ℕ) (k : EntryKind) (id : ObjectId) (u : Bool) (named : IsPathComponent
+    name)
     (some : rest ≢ []) where
   abbrev s : Staged
   s = here (name ++ 47 ∷ rest) k id u
@@ -214,21 +222,22 @@ module _ (kind : Kind) (l : ℕ) (name rest : List ℕ) (k : EntryKind) (id : Ob
       (subst (λ (x : Staged). IsReady kind (suc l) (x ∷ map (under (slashed name)) js)) (sym front) ready))
 
   -- it as an item, with what it holds
-  directory_item : (js : List Staged) (inner : Items) → IsTreeOf kind (t ∷ js) inner
-      → IsItem kind (directory name inner)
+  directory_item : (js : List Staged) (inner : DirectoryItems) → IsTreeOf kind (t ∷ js) inner
+      → IsDirectoryItem kind (directory name inner)
   directory_item js inner h = (named, not_empty, h.directory.made, h.directory.ordered)
     where
       not_empty : inner ≢ no_more
       not_empty e = let nothing : t ∷ js ≡ [] = sym h.leaves ∙ ap (leaves []) e in absurd cc
 
-  directory_listed : (js : List Staged) (inner : Items) → IsTreeOf kind (t ∷ js) inner
+  directory_listed : (js : List Staged) (inner : DirectoryItems) → IsTreeOf kind (t ∷ js) inner
       → item_leaves [] (directory name inner) ≡ s ∷ map (under (slashed name)) js
   directory_listed js inner h = dir_leaves name inner ∙ ap (map (under (slashed name))) h.leaves
       ∙ ap (λ (x : Staged). x ∷ map (under (slashed name)) js) front
 
   -- a directory that isn't there yet
-  put_directory : (xs : Items) → IsReady kind (suc l) (s ∷ leaves [] xs) → IsDirectory kind xs
-      → ((first : Staged) (others : List Staged) → leaves [] xs ≡ first ∷ others → BeginsWith first.path (slashed name)
+  put_directory : (xs : DirectoryItems) → IsReady kind (suc l) (s ∷ leaves [] xs) → IsDirectory kind xs
+      → ((first : Staged) (others : List Staged) → leaves [] xs ≡ first ∷ others
+      → HasPathPrefix first.path (slashed name)
       → ⊥) → HasTree kind (t ∷ []) → HasTree kind (s ∷ leaves [] xs)
   put_directory xs ready dir stops inner =
       let less : All (λ x. path_cmp (slashed name ++ rest) x.path ≡ Less) (leaves [] xs) =
@@ -243,12 +252,13 @@ module _ (kind : Kind) (l : ℕ) (name rest : List ℕ) (k : EntryKind) (id : Ob
   ready_alone xs ready = ready_in [] (ready_front kind (suc l) (s ∷ []) xs ready)
 
   -- a directory that is there
-  ready_there : (js xs : Items) → IsReady kind (suc l) (s ∷ leaves [] (next (directory name js) xs))
+  ready_there : (js xs : DirectoryItems) → IsReady kind (suc l) (s ∷ leaves [] (next (directory name js) xs))
       → IsReady kind l (t ∷ leaves [] js)
   ready_there js xs ready = ready_in (leaves [] js) (subst (λ (b : List Staged). IsReady kind (suc l) (s ∷ b))
       (dir_leaves name js) (ready_front kind (suc l) (s ∷ leaves (slashed name) js) (leaves [] xs) ready))
 
-  put_there : (js xs : Items) → IsDirectory kind (next (directory name js) xs) → HasTree kind (t ∷ leaves [] js)
+  put_there : (js xs : DirectoryItems) → IsDirectory kind (next (directory name js) xs)
+      → HasTree kind (t ∷ leaves [] js)
       → HasTree kind (s ∷ leaves [] (next (directory name js) xs))
   put_there js xs dir inner =
       let item = directory_item (leaves [] js) inner.0 inner.1 in
@@ -289,10 +299,11 @@ names_judged a b = by (path_cmp a b) refl
     by Greater e = inr (apart Greater e (λ z. absurd cc))
 
 abbrev Grows : Kind → ℕ → EntryKind → List ℕ → ObjectId → Bool → Type 0
-Grows kind levels k path id u = (xs : Items) → IsReady kind levels (here path k id u ∷ leaves [] xs)
+Grows kind levels k path id u = (xs : DirectoryItems) → IsReady kind levels (here path k id u ∷ leaves [] xs)
     → IsDirectory kind xs → HasTree kind (here path k id u ∷ leaves [] xs)
 
-grown_beneath : (kind : Kind) (l : ℕ) (k : EntryKind) (name rest : List ℕ) (id : ObjectId) (u : Bool) → IsName name
+grown_beneath : (kind : Kind) (l : ℕ) (k : EntryKind) (name rest : List ℕ) (id : ObjectId) (u : Bool)
+    → IsPathComponent name
     → rest ≢ [] → Grows kind l k rest id u → Grows kind (suc l) k (name ++ 47 ∷ rest) id u
 grown_beneath kind l k name rest id u named some again no_more ready dir =
     put_directory kind l name rest k id u named some no_more ready dir (λ first others e b. absurd cc)
@@ -307,13 +318,14 @@ grown_beneath kind l k name rest id u named some again (next (leaf m j i v) xs) 
     (empty_directory kind))
 grown_beneath kind l k name rest id u named some again (next (directory m js) xs) ready dir = by (names_judged name m)
   where
-    there : Items → IsReady kind (suc l) (here (name ++ 47 ∷ rest) k id u ∷ leaves [] (next (directory name js) xs))
+    there : DirectoryItems → IsReady kind (suc l) (here (name ++ 47 ∷ rest) k id u ∷ leaves [] (next (directory name
+        js) xs))
         → IsDirectory kind (next (directory name js) xs)
         → HasTree kind (here (name ++ 47 ∷ rest) k id u ∷ leaves [] (next (directory name js) xs))
     there _ r d = put_there kind l name rest k id u named some js xs d (again js
         (ready_there kind l name rest k id u named some js xs r) (record { made = d.made.0.2; ordered = d.made.0.3 }))
 
-    other_name : (name ≡ m → ⊥) → (items : Items) → directory m js ≡ directory name items → ⊥
+    other_name : (name ≡ m → ⊥) → (items : DirectoryItems) → directory m js ≡ directory name items → ⊥
     other_name n items e = let same : m ≡ name = cc in n (sym same)
 
     by : (name ≡ m) ⊎ (name ≡ m → ⊥)
@@ -332,7 +344,7 @@ grown_beneath kind l k name rest id u named some again (next (directory m js) xs
         (again no_more (ready_alone kind l name rest k id u named some (leaves [] (next (directory m js) xs)) ready)
         (empty_directory kind))
 
-grown : (kind : Kind) (check : Check) (levels : ℕ) (k : EntryKind) (path : List ℕ) → IsTreePath check levels k path
+grown : (kind : Kind) (check : NameCheck) (levels : ℕ) (k : EntryKind) (path : List ℕ) → IsTreePath check levels k path
     → (id : ObjectId) (u : Bool) → Grows kind levels k path id u
 grown kind check levels k path (of_file l j name t n r) id u xs ready dir =
     put_file kind check l j name id u xs t n ready dir

@@ -1,32 +1,33 @@
--- What writing the trees of a list answers: the directory that they are made of, or why there is none (git-write-tree).
+-- The result of writing the trees of a list: the directory of which they are made, or why there is none
+-- (git-write-tree).
 use Rattle.std.specs.Prelude.{◌≡◌, ◌<◌, ◌^◌, All, List, length, Result, Ok, Err}
 use Rattle.index_parts.specs.declared.hash.Kind.{Kind}
-use Rattle.index_entries.specs.Order.{IsStrictlyOrdered}
-use Rattle.index_entries.specs.Record.{IsSized, Record}
-use Rattle.index_tree_writer.specs.Directory.{Items, IsTreeOf}
-use Rattle.index_tree_writer.specs.Refusals.{AreFit, Check, AreRefused, Refusal}
-use Rattle.index_tree_writer.specs.Staged.{staged_in}
+use Rattle.entry_list.specs.Order.{IsStrictlyOrdered}
+use Rattle.entry_list.specs.Record.{IsSized, Record}
+use Rattle.tree_encode.specs.Directory.{DirectoryItems, IsTreeOf}
+use Rattle.tree_encode.specs.Refusals.{AreFit, NameCheck, AreRefused, Refusal}
+use Rattle.tree_encode.specs.Staged.{staged_in}
 
--- a directory, from which the objects, their ids and the cached tree follow; or a refusal, which names its paths
+-- a directory, which determines the objects, their ids and the cache tree; or a rejection, which names its paths
 abbrev pub TreesAnswer : Type 0
-TreesAnswer = Result Items Refusal
+TreesAnswer = Result DirectoryItems Refusal
 
--- Where a cached tree can count the records and none has a fault, the directory whose leaves are what they stage. Else
--- the first refusal.
-abbrev pub IsTreesAnswer : Check → Kind → List Record → TreesAnswer → Type 0
+-- If a cache tree can count the records and none is invalid, it is the directory whose leaves are the staged ones.
+-- Otherwise it is the first rejection.
+abbrev pub IsTreesAnswer : NameCheck → Kind → List Record → TreesAnswer → Type 0
 IsTreesAnswer check kind rs (Ok items) =
     (length rs < 2 ^ 31) × AreFit check kind rs × IsTreeOf kind (staged_in rs) items
 IsTreesAnswer check kind rs (Err refusal) = AreRefused check kind rs refusal
 
--- whatever a check says, records that strictly increase, and whose ids have as many bytes as their kinds, have an
--- answer
+-- whatever a check returns, records that strictly increase, and whose ids have the length of their hash algorithm, have
+-- an answer
 abbrev pub AllHaveTreesAnswer : Type 0
 AllHaveTreesAnswer =
-    (check : Check) (kind : Kind) (rs : List Record) → IsStrictlyOrdered rs → All IsSized rs
+    (check : NameCheck) (kind : Kind) (rs : List Record) → IsStrictlyOrdered rs → All IsSized rs
     → (a : TreesAnswer) × IsTreesAnswer check kind rs a
 
--- those that strictly increase have no second
+-- records that strictly increase have at most one answer
 abbrev pub AllHaveOneTreesAnswer : Type 0
 AllHaveOneTreesAnswer =
-    (check : Check) (kind : Kind) (rs : List Record) → IsStrictlyOrdered rs → (a b : TreesAnswer)
+    (check : NameCheck) (kind : Kind) (rs : List Record) → IsStrictlyOrdered rs → (a b : TreesAnswer)
     → IsTreesAnswer check kind rs a → IsTreesAnswer check kind rs b → a ≡ b

@@ -1,10 +1,10 @@
-//! The law of what `State::write_trees` answers. It computes nothing.
+//! The law of the results of `State::write_trees`. It computes nothing.
 
 ghost use Rattle.index_laws.specs.TreesAnswer.{AllHaveOneTreesAnswer, AllHaveTreesAnswer};
 
-/// Records that strictly increase have an answer, and no second, whatever a check says of names: the directory that
-/// their trees are made of, or the first refusal, with its paths. For an answer the id of each has as many bytes as its
-/// kind; so is each entry in memory.
+/// Records that strictly increase have exactly one answer, whatever a check returns for names. It is the directory of
+/// which their trees are made, or the first rejection, with its paths. That there is an answer requires that each id
+/// has the length of its hash algorithm, as in each entry in memory.
 pub fn one_answer()
     ensures some { AllHaveTreesAnswer }
     ensures one { AllHaveOneTreesAnswer }

@@ -1,15 +1,15 @@
--- What a fault says of another relation.
+-- What an error implies for another relation.
 use Rattle.std.proofs.Common.{Err}
-use Rattle.index_format.specs.declared.error.Error.{Error as Decoding}
-use Rattle.index_format.specs.declared.error.Error.TheVariants as decoding
-use Rattle.index_format.specs.declared.error.Extension.TheVariants as extensions
-use Rattle.index_split.specs.declared.link.decode.Error.TheVariants as links
-use Rattle.index_format.specs.Answer.{Answer, Fault}
-use Rattle.index_format.specs.DecodeErrors.{IsEarly, SaysFault}
+use Rattle.index_model.specs.declared.error.Error.{Error as Decoding}
+use Rattle.index_model.specs.declared.error.Error.TheVariants as decoding
+use Rattle.index_model.specs.declared.error.Extension.TheVariants as extensions
+use Rattle.ext_split.specs.declared.link.decode.Error.TheVariants as links
+use Rattle.index_model.specs.Answer.{Answer, Fault}
+use Rattle.index_model.specs.DecodeErrors.{IsEarly, DecodeCause}
 
--- what an error says of answers, where a relation's faults are another's
+-- what an error implies for answers, if a relation's errors are another's
 pub says_weaker : (e : Decoding) (P Q : Answer → Type 0) → ((f : Fault) → P (Err f) → Q (Err f))
-    → ((f : Fault) → IsEarly f → Q (Err f) → ⊥) → SaysFault e P → SaysFault e Q
+    → ((f : Fault) → IsEarly f → Q (Err f) → ⊥) → DecodeCause e P → DecodeCause e Q
 says_weaker (decoding.Header e) P Q to never h = to _ h
 says_weaker decoding.Hasher P Q to never h = h
 says_weaker decoding.OutOfMemory P Q to never h = to _ h

@@ -1,4 +1,4 @@
--- An ending that was read behind no entries is also one behind those that were passed.
+-- An ending that was read after no entries is also one after the entries that were skipped.
 use Rattle.std.proofs.Common.{◌≡◌, ◌∙◌, ℕ, ltb, Bool, true, false, List, [], length, Option, Some, None, Ok, Err, inl}
 use Rattle.std.proofs.Common.{inr, ◌<◌, Fits, w8, get_or, refl, sym, ap, arith}
 use Rattle.std.specs.Prelude.{◌^◌, ◌||◌, if◌then◌else◌}
@@ -6,22 +6,20 @@ use Rattle.std.proofs.lemmas.List.Elements.{All-from_get_or}
 use Rattle.std.proofs.lemmas.Option.{same_Some}
 use Rattle.index_parts.specs.declared.hash.Kind.{Kind}
 use Rattle.index_parts.specs.declared.hash.ObjectId.{ObjectId}
-use Rattle.index_metadata.specs.declared.entry.stat.FileTime.{FileTime}
+use Rattle.entry_fields.specs.declared.entry.stat.FileTime.{FileTime}
 use Rattle.index_extensions.specs.Walk.{Item}
-use Rattle.index_entries.specs.declared.Version.{Version}
-use Rattle.index_entries.specs.Entries.{AreEntries}
-use Rattle.index_entries.specs.Record.{Record, has_directory}
-use Rattle.index_format.specs.declared.decode.Options.{Options}
-use Rattle.index_format.specs.Answer.{Answer, Fault, IsAnswer, IsBehindHeader, IsClosed, IsEnding, IsVerified, faulty}
-use Rattle.index_format.specs.Answer.{has, left, short, speak_of_own, trailer_checksum, value_of, walked, whole}
-use Rattle.index_format.specs.Contents.{Contents}
-use Rattle.index_format.specs.Outcome.{Outcome}
-use Rattle.index_format.specs.Storable.{IsStorable}
-use Rattle.index_format.proofs.ReadValues.{answer_read, same_value}
-use Rattle.index_state.specs.Edits.{with_records}
-use Rattle.index_state.specs.State.{contents}
-use Rattle.index_outline.specs.Outlines.{Outlines}
-use Rattle.index_window.specs.Passed.{in_64_bits, paths_len}
+use Rattle.entry_list.specs.declared.Version.{Version}
+use Rattle.entry_list.specs.Entries.{AreEntries}
+use Rattle.entry_list.specs.Record.{Record, has_directory}
+use Rattle.index_model.specs.declared.decode.Options.{Options}
+use Rattle.index_model.specs.Answer.{Answer, Fault, IsAnswer, IsBehindHeader, IsClosed, IsEnding, IsVerified, faulty}
+use Rattle.index_model.specs.Answer.{has, left, short, speak_of_own, trailer_checksum, answer_contents, walked, whole}
+use Rattle.index_model.specs.Contents.{Contents}
+use Rattle.index_model.specs.Outcome.{Outcome}
+use Rattle.index_model.specs.Storable.{IsStorable}
+use Rattle.index_model.proofs.ReadValues.{answer_read, same_value}
+use Rattle.index_outline.specs.Outlines.{Outlines, outlined_value}
+use Rattle.file_windows.specs.Passed.{in_64_bits, paths_len}
 use Rattle.index_outline.specs.declared.Outline.{Outline}
 
 -- ---- the trailer
@@ -56,8 +54,8 @@ module _ (kind : Kind) (time : FileTime) (options : Options) (version : Version)
   -- a value without records, and the same with these
   pub record IsReadBare (rest : List ℕ) (v : Contents) (c : Option ObjectId) : Type 0 where
     pub outcome : Outcome
-    pub is : v ≡ value_of kind time version [] outcome
-    pub ending : IsEnding kind time options version rs rest (Ok (value_of kind time version rs outcome, c))
+    pub is : v ≡ answer_contents kind time version [] outcome
+    pub ending : IsEnding kind time options version rs rest (Ok (answer_contents kind time version rs outcome, c))
 
   closed_fault : (items : List Item) (tail trailer : List ℕ) (f : Fault)
       → IsClosed kind time options version [] items tail trailer (Err f)
@@ -66,7 +64,8 @@ module _ (kind : Kind) (time : FileTime) (options : Options) (version : Version)
   closed_fault items tail trailer f (left s n e) = left s n e
   closed_fault items tail trailer f (whole o s z out h) =
       whole o s z out (verified_fault options.expected_checksum (trailer_checksum kind trailer)
-      (value_of kind time version [] o) (value_of kind time version rs o) (trailer_checksum kind trailer) f h)
+      (answer_contents kind time version [] o) (answer_contents kind time version rs o) (trailer_checksum kind trailer)
+      f h)
 
   pub ending_fault : (rest : List ℕ) (f : Fault) → IsEnding kind time options version [] rest (Err f)
       → IsEnding kind time options version rs rest (Err f)
@@ -82,7 +81,8 @@ module _ (kind : Kind) (time : FileTime) (options : Options) (version : Version)
   closed_value rest xs trailer items tail v c to (left s n e) = absurd cc
   closed_value rest xs trailer items tail v c to (whole o s z out h) =
       let anew = verified_anew options.expected_checksum (trailer_checksum kind trailer) v
-      (value_of kind time version [] o) (value_of kind time version rs o) c (trailer_checksum kind trailer) h in
+      (answer_contents kind time version [] o) (answer_contents kind time version rs o) c (trailer_checksum kind
+      trailer) h in
       record { outcome = o; is = anew.0; ending = to _ (whole o s z out anew.1) }
 
   pub ending_value : (rest : List ℕ) (v : Contents) (c : Option ObjectId)
@@ -93,17 +93,21 @@ module _ (kind : Kind) (time : FileTime) (options : Options) (version : Version)
 
 -- ---- the value without its records
 
--- with the mark of a sparse index where it had that or this says so
+abbrev pub without_records : Contents → Contents
+without_records v = record v { records = [] }
+
+-- without its records, and with the mark of a sparse index if it had that or this says so
 abbrev pub marked_value : Bool → Contents → Contents
-marked_value sparse v = record v { extensions = record v.extensions { sparse = v.extensions.sparse || sparse } }
+marked_value sparse v =
+    record v { records = []; extensions = record v.extensions { sparse = v.extensions.sparse || sparse } }
 
 or_none : (a b : Bool) → ((a || false) || b) ≡ (a || b)
 or_none true b = refl
 or_none false b = refl
 
 bare_value : (kind : Kind) (time : FileTime) (version : Version) (rs : List Record) (o : Outcome)
-    → marked_value (has_directory rs) (value_of kind time version [] o)
-    ≡ with_records (value_of kind time version rs o) []
+    → marked_value (has_directory rs) (answer_contents kind time version [] o)
+    ≡ without_records (answer_contents kind time version rs o)
 bare_value kind time version rs o =
     let with_mark : Bool → Contents = λ b. record {
       kind = kind;
@@ -115,18 +119,20 @@ bare_value kind time version rs o =
     } in
     ap with_mark (or_none o.sparse (has_directory rs))
 
--- what an outline says of a value that was read so
+-- the outline of a value that was read so
 pub outline_from : (kind : Kind) (time : FileTime) (options : Options) (version : Version) (rs : List Record)
     (rest : List ℕ) (v : Contents) (o : Outline) → AreEntries version kind None o.entries.now rs rest
-    → length rs ≡ o.count → o.path_bytes ≡ paths_len rs → contents o.bare ≡ marked_value (has_directory rs) v
+    → length rs ≡ o.count → o.path_bytes ≡ paths_len rs
+    → outlined_value o [] ≡ marked_value (has_directory rs) v
     → IsEnding kind time options version [] rest (Ok (v, o.checksum))
     → (w : Contents) × Outlines w o
     × IsBehindHeader kind time options version o.count o.entries.now (Ok (w, o.checksum))
 outline_from kind time options version rs rest v o entries count path_bytes bare ending =
     let read = ending_value kind time options version rs rest v o.checksum ending in (
-      value_of kind time version rs read.outcome,
+      answer_contents kind time version rs read.outcome,
       record {
-        bare = bare ∙ ap (marked_value (has_directory rs)) read.is ∙ bare_value kind time version rs read.outcome;
+        value = ap (λ (w : Contents). record w { records = rs }) (sym (bare
+            ∙ ap (marked_value (has_directory rs)) read.is ∙ bare_value kind time version rs read.outcome));
         count = sym count;
         path_bytes = path_bytes;
         after = rest;

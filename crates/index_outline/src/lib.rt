@@ -1,44 +1,53 @@
-//! An index in the bytes of its file of which no entry is kept: they are only counted.
+//! Decodes an index from the bytes of its file without storing its entries: they are only counted.
 #![tactic(auto)]
 
 ghost use Rattle.std.specs.Prelude.{◌≡◌, IfErr, IfOk};
 ghost use Rattle.index_outline.specs.Outlines.{IsFaultBy, IsOutlineBehind, OutlineIdsAreOf, marked};
-ghost use Rattle.index_reading.specs.ReadParts.{IsAnswerBehind};
-ghost use Rattle.index_state.specs.State.{PathsInStorage};
+ghost use Rattle.index_decode.specs.ReadParts.{IsAnswerBehind};
 
-use index_entries::list::EntryList;
-use index_entry_reading::entries::Read;
-use index_format::{Parts, decode};
-use index_parts::hash::ObjectId;
-use index_reading::decode::{ReadAs, read_ending};
-use index_state::State;
-use index_window::passed::pass_entries;
+use entry_decode::entries::Read;
+use entry_fields::entry::FileTime;
+use entry_list::Version;
+use entry_list::list::EntryList;
+use file_windows::passed::pass_entries;
+use index_decode::decode::{ReadAs, read_ending};
+use index_model::decode;
+use index_model::extension::Outcome;
+use index_parts::hash::{Kind, ObjectId};
 use std::alloc::Global;
 
-/// An index of which no entry is kept.
+/// An index without its entries.
 #[derive(Drop)]
 pub struct Outline<'a> {
-    /// The index but for its entries: it has none.
-    pub bare: State,
-    /// How many entries there are.
+    /// The hash algorithm of the index's ids.
+    pub object_hash: Kind,
+    /// The time at which the file was last written, as given by the caller.
+    pub timestamp: FileTime,
+    /// The version of the file.
+    pub version: Version,
+    /// The extensions.
+    pub extensions: Outcome,
+    /// Whether the extensions describe these entries only, and not those of a shared index too.
+    pub extensions_fit: bool,
+    /// The number of entries.
     pub count: u32,
-    /// How many bytes their paths have together.
+    /// The total length of the paths in bytes.
     pub path_bytes: usize,
     /// The bytes from the first entry on.
     pub entries: &'a [u8],
-    /// The id at the end of the bytes, or None where it is null.
+    /// The id at the end of the bytes, or `None` if it is null.
     pub checksum: Option<ObjectId>,
 }
 
-/// The parts, marked as those of a sparse index where this says so.
-fn marked(mut parts: Parts, sparse: bool) -> Parts
-    ensures { result ≡ marked parts sparse }
+/// Returns the extensions, marked as those of a sparse index if `sparse` is set.
+fn with_sparse_mark(mut extensions: Outcome, sparse: bool) -> Outcome
+    ensures { result ≡ marked extensions sparse }
 {
-    parts.extensions.is_sparse |= sparse;
-    parts
+    extensions.is_sparse |= sparse;
+    extensions
 }
 
-/// The outline of so many entries at the front of the bytes, and of the end behind them.
+/// Returns the outline of `count` entries at the start of the bytes, and of the extensions and the trailer after them.
 pub fn outline_behind_header(
     alloc: Global,
     read_as: ReadAs,
@@ -47,7 +56,6 @@ pub fn outline_behind_header(
 ) -> Result<Outline<'_>, decode::Error>
     ensures outlined { IfOk result (IsOutlineBehind read_as count bytes.now) }
     ensures fault { IfErr result (IsFaultBy (IsAnswerBehind read_as count bytes.now)) }
-    ensures placed { IfOk result (λ o. PathsInStorage o.bare) }
     ensures extension_ids { IfOk result (OutlineIdsAreOf read_as.object_hash) }
 {
     let passed = match pass_entries(read_as.version, read_as.object_hash, count, bytes) {
@@ -64,7 +72,11 @@ pub fn outline_behind_header(
     };
     let (parts, checksum) = read_ending(alloc, no_entries, read_as)?;
     Ok(Outline {
-        bare: State::from(marked(parts, passed.sparse)),
+        object_hash: parts.object_hash,
+        timestamp: parts.timestamp,
+        version: parts.version,
+        extensions: with_sparse_mark(parts.extensions, passed.sparse),
+        extensions_fit: parts.extensions_fit,
         count,
         path_bytes,
         entries: bytes,

@@ -8,7 +8,7 @@ use Rattle.std.proofs.lemmas.List.{drop-set}
 use native.Mathlib.Numerals.{unary_clauses}
 use Rattle.index_parts.specs.Offset.{AreContinued, digits_value, powers_sum, IsOffset, continued_bytes, offset_bytes}
 
--- ---- what bytes stand for with one more behind them
+-- ---- the value of bytes with one more after them
 
 abbrev value : List ℕ → ℕ
 value l = digits_value l + powers_sum l
@@ -53,8 +53,7 @@ continued_push (c ∷ l) b h k = (h.0, continued_push l b h.1 k)
 
 -- ---- a number's spelling
 
--- the bytes before the last one have the continuation bit, and with a last byte of these digits all stand for the
--- number
+-- The bytes before the last one have the continuation bit. With a last byte of these digits, they encode the number.
 record Leads (n : ℕ) (front : List ℕ) : Type 0 where
   continued : AllByRecursion (λ c. 128 ≤ c) front
   sums : (b : ℕ) → b % 128 ≡ n % 128 → value (front ++ b ∷ []) ≡ n

@@ -37,7 +37,7 @@ held_before taken hashed a b x y xs (Err f) e p q h =
     let more = rw (p, q) at h.taken in
     ap (take (length x)) more ∙ take_at x h.prefix (length x) refl
 
--- more bytes behind those that are held
+-- more bytes after those that are held
 pub gathers_more : {S : Type 0} {w : Ghosts S} {a b c : S} {held xs next all : List ℕ} (ys : List ℕ) → xs ++ ys ≡ all
     → Gathers w a b held xs → Gathers w b c next (held ++ ys) → Gathers w a c next all
 gathers_more {held = held} {xs = xs} {next = next} ys e p q = record {

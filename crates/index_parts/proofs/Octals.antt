@@ -65,13 +65,13 @@ octal_none text e = rw e refl
 
 -- ---- digit after digit
 
--- the number of octal digits, where those before them stand for so much
+-- the value of octal digits after others of the value `high`
 abbrev pub octal_from : ℕ → List ℕ → Option ℕ
 octal_from high [] = Some high
 octal_from high (b ∷ text) =
     cond (is_octal_digit b) (cond (ltb (high * 8 + (b - 48)) (2 ^ 32)) (octal_from (high * 8 + (b - 48)) text) None) None
 
--- what digits stand for behind others, which stand for so much
+-- the value of digits after others of the value `high`
 abbrev whole : ℕ → List ℕ → ℕ
 whole high text = high * 8 ^ length text + octal_value text
 
@@ -139,7 +139,7 @@ octal_first (b ∷ text) h = same_option _ _ (λ n e. octal_again (b ∷ text) n
     let is : whole 0 (b ∷ text) ≡ n = omega (arith, t.value) in
     from_again 0 (b ∷ text) t.digits (rw is t.fits) ∙ ap Some is)
 
--- ---- no other byte stands in them, and they have a byte
+-- ---- the text has no other byte, and has at least one
 
 pub octal_without : (b : ℕ) (text : List ℕ) (n : ℕ) → (IsOctalDigit b → ⊥) → IsOctal text n → All (λ x. x ≢ b) text
 octal_without b text n other h = λ k d lt e. other (subst (λ (x : ℕ). IsOctalDigit x) e (h.digits k d lt))

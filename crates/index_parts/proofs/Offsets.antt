@@ -16,7 +16,7 @@ offset_over high (b ∷ bytes) big =
     let over : ltb (high * 128 + b % 128) (2 ^ 64) ≡ false = le-ltb _ _ (omega arith) in
     rw over refl
 
--- what the bytes stand for behind a higher part
+-- the value of the bytes after a higher part
 abbrev total : ℕ → List ℕ → ℕ
 total high bytes = high * 128 ^ length bytes + digits_value bytes + powers_sum bytes
 
@@ -118,7 +118,7 @@ pub offset_again : (bytes : List ℕ) (n : ℕ) (rest : List ℕ) → StartsWith
     → offset_at bytes ≡ Some (n, rest)
 offset_again bytes n rest h = ap offset_at h.parts ∙ offset_spelled h.spelling rest n h.is_offset
 
--- ---- what the number that is found says, and what it says where none is
+-- ---- the properties of a number that is found, and the consequences if none is
 
 pub found_offset : {X : Type 0} (f : X → ℕ × List ℕ) (bytes : List ℕ) (o : Option X) → option_map f o ≡ offset_at bytes
     → IfSome o (λ x. StartsWithOffset bytes (f x).0 (f x).1)

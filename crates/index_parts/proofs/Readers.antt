@@ -1,4 +1,4 @@
--- A number or an id that is read stands at the front, and one that stands there is read.
+-- A number or an id that is read is at the start, and one at the start is read.
 use Rattle.std.proofs.Common.{◌≡◌, ℕ, List, ◌++◌, length, Option, Some, refl, sym, ap, subst, ◌∙◌}
 use Rattle.std.proofs.lemmas.Option.{same_Some}
 use Rattle.index_parts.specs.declared.hash.Kind.{Kind}

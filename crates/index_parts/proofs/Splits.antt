@@ -30,7 +30,7 @@ piece_again size piece rest len =
 
 -- ---- up to a byte
 
--- the first b behind a piece without it stands at the piece's length
+-- the first b after a piece without it is at the piece's length
 place_behind : (b : ℕ) (piece rest : List ℕ) → All (λ x. x ≢ b) piece
     → position_or_len (λ x. eqb x b) (piece ++ b ∷ rest) ≡ length piece
 place_behind b [] rest h = rw (eq-eqb b b refl) refl
@@ -39,7 +39,7 @@ place_behind b (x ∷ piece) rest h =
     ≡ false) [ true ↦ λ e. absurd (All-head (λ x. x ≢ b) x piece h (eqb-true x b e)) | false ↦ λ e. e ] refl in
     rw (other, place_behind b piece rest (All-tail (λ x. x ≢ b) x piece h)) (omega arith)
 
--- the first b stands behind n bytes
+-- the first b is after n bytes
 abbrev StandsAt : ℕ → ℕ → List ℕ → Type 0
 StandsAt b n bytes = (bytes ≡ take n bytes ++ b ∷ drop (n + 1) bytes) × All (λ x. x ≢ b) (take n bytes)
 
@@ -90,7 +90,7 @@ split_again b bytes piece rest u =
     ∙ drop_at (piece ++ b ∷ []) rest (length piece + 1) (length-append piece (b ∷ [])) in
     rw (first, at, second, front, back) refl
 
--- ---- what the split that is found says, and what it says where none is
+-- ---- the properties of a split that is found, and the consequences if none is
 
 pub found_split : {X : Type 0} (f : X → List ℕ × List ℕ) (b : ℕ) (bytes : List ℕ) (o : Option X)
     → option_map f o ≡ split_at_byte b bytes → IfSome o (λ x. IsUpTo b bytes (f x).0 (f x).1)

@@ -87,7 +87,7 @@ prefix_at f xs i d {a} {b} {c} h p q =
     subst (λ (l : List ℕ). AppendsPrefix a c l) (sym (flat_map_at f xs i d h))
     (prefix_before (prefix_after a b c _ _ p q) _)
 
--- a piece of a list of pieces, and those before and behind it
+-- a piece of a list of pieces, and those before and after it
 pieces_at : {X : Type 0} (f : X → List ℕ) (xs : List X) (i : ℕ) (d : X) → i < length xs
     → map f xs ≡ map f (take i xs) ++ f (get_or xs i d) ∷ map f (drop (suc i) xs)
 pieces_at f xs i d h = ap (map f) (sym (take-append-drop i xs) ∙ ap (λ l. take i xs ++ l) (drop-cons xs i d h))

@@ -5,6 +5,7 @@ pub mod Limit
 pub mod Numbers
 pub mod Octal
 pub mod Offset
+pub mod Path
 pub mod ReadingSteps
 pub mod Taking
 pub mod Puts

@@ -4,27 +4,27 @@ use Rattle.std.specs.Prelude.{◌≡◌, ◌≢◌, ℕ, ◌+◌, ◌-◌, ◌*�
 use Rattle.std.specs.Prelude.{All, length, Option, Some, None, if◌then◌else◌}
 use Rattle.std.specs.List.{list_all}
 
--- `0` to `7`
+-- the byte is a digit `0` to `7`
 abbrev pub IsOctalDigit : ℕ → Type 0
 IsOctalDigit b = (48 ≤ b) × (b ≤ 55)
 
--- the same as a test
+-- whether the byte is a digit `0` to `7`, as a test
 abbrev pub is_octal_digit : ℕ → Bool
 is_octal_digit b = nat_le 48 b && nat_le b 55
 
--- what octal digits stand for, by their places
+-- the value of octal digits, by their positions
 abbrev pub octal_value : List ℕ → ℕ
 octal_value [] = 0
 octal_value (b ∷ text) = (b - 48) * 8 ^ length text + octal_value text
 
--- text is one or more octal digits that stand for n, which has at most 32 bits
+-- the text is one or more octal digits, whose value n has at most 32 bits
 pub record IsOctal (text : List ℕ) (n : ℕ) : Type 0 where
   pub some : text ≢ []
   pub digits : All IsOctalDigit text
   pub value : n ≡ octal_value text
   pub fits : n < 2 ^ 32
 
--- the number of a text: of one or more octal digits, where it has at most 32 bits
+-- the value of a text of one or more octal digits, if it has at most 32 bits
 unfoldable pub octal_number : List ℕ → Option ℕ
 octal_number text =
     if not (length text == 0) && list_all is_octal_digit text

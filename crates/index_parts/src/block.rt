@@ -1,4 +1,4 @@
-//! Small pieces that go out as one.
+//! Small pieces that are written as one.
 
 ghost use Rattle.std.specs.Prelude.{◌≡◌, ◌≤◌, [], Some, false, length, take};
 ghost use Rattle.index_parts.specs.Gathered.{Gathered, cut_to};
@@ -8,11 +8,11 @@ use std::io;
 use std::io::ErrorKind;
 use std::marker::Model;
 
-/// How many bytes a block has room for.
+/// The capacity of a block in bytes.
 pub const BLOCK_LEN: usize = 4096;
 
-/// An [`Out`] that keeps the pieces it takes, one behind another, as far as it has room for them. What it keeps can go
-/// to another one as a single piece. It takes no memory but its own.
+/// An [`Out`] that collects the pieces that it takes, up to [`BLOCK_LEN`] bytes. They can be written to another `Out`
+/// as a single piece. It allocates no memory.
 #[derive(Drop)]
 pub struct Block {
     bytes: [u8; BLOCK_LEN],
@@ -29,7 +29,7 @@ impl Model for Block {
 }
 
 impl Block {
-    /// A block without bytes.
+    /// Returns a block without bytes.
     pub fn new() -> Block
         ensures { result ≡ record { bytes = []; is_full = false } }
     {
@@ -40,21 +40,21 @@ impl Block {
         }
     }
 
-    /// How many bytes it has.
+    /// Returns the number of bytes.
     pub fn len(&self) -> usize
         ensures { result ≡ length self.now.bytes }
     {
         self.as_slice().len()
     }
 
-    /// Its bytes.
+    /// Returns the bytes.
     pub fn as_slice(&self) -> &[u8]
         ensures { result.now ≡ self.now.bytes }
     {
         &self.bytes[..self.len]
     }
 
-    /// Keeps so many of its first bytes alone. It has not failed then.
+    /// Shortens the block to its first `len` bytes. It is then no longer marked failed.
     pub fn cut_to(&mut self, len: usize)
         requires { len ≤ length self.old.bytes }
         ensures { self.new ≡ cut_to self.old len }
@@ -64,8 +64,8 @@ impl Block {
     }
 }
 
-/// A piece is taken whole, or not at all where there is no room for it, with [`ErrorKind::WriteZero`]. The block has
-/// failed from then on, until it is cut by [`Block::cut_to`].
+/// A piece is taken completely. If there is no room for it, nothing of it is taken, and the error is
+/// [`ErrorKind::WriteZero`]. The block has then failed until it is cut by [`Block::cut_to`].
 impl Out for Block {
     ghost taken = { λ b. Some b.bytes };
 

@@ -1,11 +1,11 @@
-//! What bytes of a known number mean, in themselves: big-endian numbers, and zeros.
+//! Values of byte strings of a known length: big-endian numbers, and zeros.
 
 ghost use Rattle.std.specs.Int.{to_be_bytes, w64};
 ghost use Rattle.std.specs.Prelude.{◌≡◌, ◌≤◌, ◌+◌, drop, length, take};
 ghost use Rattle.index_parts.specs.Id.{is_null};
 ghost use Rattle.index_parts.specs.Numbers.{be};
 
-/// The number that two bytes encode, the high byte first.
+/// Returns the number that two bytes encode, the high byte first.
 pub fn from_be_u16(bytes: &[u8]) -> u16
     requires { length bytes.now ≡ 2 }
     ensures { result ≡ be bytes.now }
@@ -13,7 +13,7 @@ pub fn from_be_u16(bytes: &[u8]) -> u16
     u16::from_be_bytes([bytes[0], bytes[1]])
 }
 
-/// The number that four bytes encode, the highest byte first.
+/// Returns the number that four bytes encode, the highest byte first.
 pub fn from_be_u32(bytes: &[u8]) -> u32
     requires { length bytes.now ≡ 4 }
     ensures { result ≡ be bytes.now }
@@ -21,7 +21,7 @@ pub fn from_be_u32(bytes: &[u8]) -> u32
     u32::from_be_bytes([bytes[0], bytes[1], bytes[2], bytes[3]])
 }
 
-/// The number that eight bytes encode, the highest byte first.
+/// Returns the number that eight bytes encode, the highest byte first.
 pub fn from_be_u64(bytes: &[u8]) -> u64
     requires { length bytes.now ≡ 8 }
     ensures { result ≡ be bytes.now }
@@ -31,10 +31,10 @@ pub fn from_be_u64(bytes: &[u8]) -> u64
     ])
 }
 
-/// The bytes that [`word_at`] takes at once.
+/// The number of bytes that [`word_at`] reads.
 pub const WORD_LEN: usize = 8;
 
-/// The eight bytes at a place, as one number.
+/// Returns the eight bytes at the index `at` as one number.
 pub fn word_at(bytes: &[u8], at: usize) -> u64
     requires { at + 8 ≤ length bytes.now }
     ensures { to_be_bytes w64 result ≡ take 8 (drop at bytes.now) }
@@ -51,7 +51,7 @@ pub fn word_at(bytes: &[u8], at: usize) -> u64
     ])
 }
 
-/// Whether all bytes are zero.
+/// Returns whether all bytes are zero.
 pub fn is_null(bytes: &[u8]) -> bool
     ensures { result ≡ is_null bytes.now }
 {

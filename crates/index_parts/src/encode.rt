@@ -1,13 +1,13 @@
-//! How numbers are encoded in a file's bytes.
+//! Encoding of numbers in a file's bytes.
 
 ghost use Rattle.std.specs.Prelude.{◌≡◌, ◌≤◌, drop};
 ghost use Rattle.index_parts.specs.Offset.{IsOffset, offset_bytes};
 
-/// The most bytes that an offset number (varint) of 64 bits has.
+/// The length of the longest offset number (varint) of 64 bits, in bytes.
 pub const MAX_OFFSET_LEN: usize = 10;
 
-/// The offset number (varint) that encodes `n` (gitformat-index, entries of version 4), at the end of the array, and
-/// the index of its first byte.
+/// Returns the offset number (varint) that encodes `n` (gitformat-index, entries of version 4), at the end of the
+/// array, and the index of its first byte.
 ///
 /// The number has one encoding, of 1 to 10 bytes, which [`crate::read::offset`] reads.
 pub fn offset(n: u64) -> ([u8; MAX_OFFSET_LEN], usize)

@@ -1,4 +1,4 @@
-//! Object ids of two kinds, and the digests that they are made of.
+//! Object ids of two hash algorithms, and their digests.
 
 ghost use Rattle.std.specs.Prelude.{◌≡◌, ◌≤◌, ◌↔◌, ◌++◌, ℕ, List, [], length, IsTrue, Some};
 ghost use Rattle.std.specs.Fmt.{WritesOnOk};
@@ -7,13 +7,13 @@ ghost use Rattle.index_parts.specs.Digest.{digest, hasher_kind, Holds};
 ghost use Rattle.index_parts.specs.Id.{make_id};
 
 use crate::bytes;
-use index_digest::{Sha1, Sha256};
+use base_sha::{Sha1, Sha256};
 use std::fmt;
 
 pub mod io;
 pub mod verify;
 
-/// Which hash function a repository names its objects by (gitformat-index: 160 or 256 bits).
+/// The hash algorithm by which a repository names its objects (gitformat-index: 160 or 256 bits).
 #[derive(Clone, Copy, Debug, PartialEq, Eq, PartialOrd, Ord, Hash)]
 pub enum Kind {
     /// SHA-1, with ids of 20 bytes.
@@ -22,7 +22,7 @@ pub enum Kind {
     Sha256,
 }
 
-/// The name of an object: a kind, and that many bytes. Ordered by kind, then by bytes.
+/// The id of an object: a hash algorithm, and as many bytes as its digests have. Ordered by algorithm, then by bytes.
 #[derive(Clone, Copy, Debug, PartialEq, Eq, PartialOrd, Ord, Hash)]
 pub enum ObjectId {
     /// An id of 20 bytes.
@@ -34,7 +34,7 @@ pub enum ObjectId {
 impl Kind {
     ghost use Rattle.index_parts.specs.Id.{id_len, null_id};
 
-    /// How many bytes an id of this kind has: 20 or 32.
+    /// Returns the length of an id in bytes: 20 or 32.
     pub fn len_in_bytes(&self) -> usize
         ensures { result ≡ id_len self.now }
     {
@@ -44,7 +44,7 @@ impl Kind {
         }
     }
 
-    /// The id whose bytes are all zero.
+    /// Returns the id whose bytes are all zero.
     pub fn null(&self) -> ObjectId
         ensures { result ≡ null_id self.now }
     {
@@ -58,7 +58,7 @@ impl Kind {
 impl ObjectId {
     ghost use Rattle.index_parts.specs.Id.{id_bytes, id_kind, id_of, id_len, is_null};
 
-    /// The id with these bytes; None where there are neither 20 nor 32.
+    /// Returns the id with these bytes, or None if their number is neither 20 nor 32.
     pub fn from_bytes(bytes: &[u8]) -> Option<ObjectId>
         ensures { result ≡ id_of bytes.now }
     {
@@ -69,7 +69,7 @@ impl ObjectId {
         }
     }
 
-    /// The id of this kind with these bytes, of which there are as many as the kind has.
+    /// Returns the id of this hash algorithm with these bytes. Their number must be that of the algorithm.
     pub fn of_kind(kind: Kind, bytes: &[u8]) -> ObjectId
         requires { length bytes.now ≡ id_len kind }
         ensures { result ≡ make_id kind bytes.now }
@@ -88,7 +88,7 @@ impl ObjectId {
         }
     }
 
-    /// The id's bytes, 20 or 32.
+    /// Returns the id's bytes, 20 or 32.
     pub fn as_bytes(&self) -> &[u8]
         ensures bytes { result.now ≡ id_bytes self.now }
         ensures len { length result.now ≡ id_len (id_kind self.now) }
@@ -99,7 +99,7 @@ impl ObjectId {
         }
     }
 
-    /// The id's kind.
+    /// Returns the id's hash algorithm.
     pub fn kind(&self) -> Kind
         ensures { result ≡ id_kind self.now }
     {
@@ -109,7 +109,7 @@ impl ObjectId {
         }
     }
 
-    /// Whether the id is of this kind. It has as many bytes as its kind has.
+    /// Returns whether the id is of this hash algorithm. An id has as many bytes as its algorithm's digests.
     pub fn is_of_kind(&self, kind: Kind) -> bool
         ensures same { IsTrue result ↔ id_kind self.now ≡ kind }
         ensures len { length (id_bytes self.now) ≡ id_len (id_kind self.now) }
@@ -117,7 +117,7 @@ impl ObjectId {
         self.as_bytes().len() == kind.len_in_bytes()
     }
 
-    /// Whether all bytes are zero.
+    /// Returns whether all bytes are zero.
     pub fn is_null(&self) -> bool
         ensures { result ≡ is_null (id_bytes self.now) }
     {
@@ -125,17 +125,17 @@ impl ObjectId {
     }
 }
 
-/// Takes bytes in pieces, and gives the digest of them joined (FIPS 180-4).
+/// A hasher: it takes bytes in pieces, and returns the digest of the pieces joined (FIPS 180-4).
 #[derive(Drop)]
 pub enum Hasher {
-    /// Gives a SHA-1 digest.
+    /// The hasher of SHA-1.
     Sha1(Sha1),
-    /// Gives a SHA-256 digest.
+    /// The hasher of SHA-256.
     Sha256(Sha256),
 }
 
 impl Hasher {
-    /// Makes digests of this kind, and has taken in no byte.
+    /// Returns a hasher of this algorithm that has taken in no byte.
     pub fn new(kind: Kind) -> Hasher
         ensures kind { hasher_kind result ≡ kind }
         ensures empty { Holds result [] }
@@ -146,7 +146,7 @@ impl Hasher {
         }
     }
 
-    /// Takes these bytes in, after those before.
+    /// Takes in the bytes of `piece`, after those before.
     pub fn update(&mut self, piece: &[u8])
         ensures kind { hasher_kind self.new ≡ hasher_kind self.old }
         ensures more { (m : List ℕ) → Holds self.old m → Holds self.new (m ++ piece.now) }
@@ -157,7 +157,7 @@ impl Hasher {
         }
     }
 
-    /// The digest of all bytes that were taken in.
+    /// Returns the digest of all bytes that were taken in.
     pub fn finalize(self) -> ObjectId
         ensures { (m : List ℕ) → Holds self m
             → result ≡ make_id (hasher_kind self) (digest (hasher_kind self) m) }
@@ -169,7 +169,7 @@ impl Hasher {
     }
 }
 
-/// The digest of these bytes (FIPS 180-4).
+/// Returns the digest of these bytes (FIPS 180-4).
 pub fn digest(kind: Kind, bytes: &[u8]) -> ObjectId
     ensures { result ≡ make_id kind (digest kind bytes.now) }
 {
@@ -191,7 +191,7 @@ fn write_hex<W: fmt::Write>(bytes: &[u8], f: &mut fmt::Formatter<W>) -> fmt::Res
     f.write_str(text)
 }
 
-/// The id in base 16: 40 or 64 digits in lower case.
+/// Writes the id in base 16: 40 or 64 digits in lower case.
 impl fmt::Display for ObjectId {
     ghost use Rattle.index_parts.specs.Id.{id_bytes};
 

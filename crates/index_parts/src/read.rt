@@ -1,7 +1,7 @@
-//! Readers of what stands at the front of bytes, each with one exact contract.
+//! Readers of the value at the start of bytes, each with one exact contract.
 //!
-//! A reader gives its value and the bytes after it, or None where there is none, and takes no memory. All numbers are
-//! big-endian (gitformat-index).
+//! A reader returns its value and the bytes after it, or None if there is no value. It allocates no memory. All numbers
+//! are big-endian (gitformat-index).
 
 ghost use Rattle.std.specs.Prelude.{◌≡◌, ◌==◌, ◌+◌, ◌*◌, ◌≤◌, ◌↔◌, IsTrue, IfSome, length, position};
 ghost use Rattle.std.specs.Option.{option_map};
@@ -14,7 +14,7 @@ pub use crate::bytes::{WORD_LEN, is_null, word_at};
 use crate::bytes::{from_be_u32, from_be_u64};
 use crate::hash::{Kind, ObjectId};
 
-/// The first `size` bytes, and the bytes after them; None where there are fewer.
+/// Returns the first `size` bytes, and the bytes after them. None if there are fewer.
 pub fn piece(bytes: &[u8], size: usize) -> Option<(&[u8], &[u8])>
     ensures exact { option_map (λ x. (x.0.now, x.1.now)) result ≡ piece_at size bytes.now }
     ensures len { IfSome result (λ x. length x.0.now ≡ size) }
@@ -25,16 +25,16 @@ pub fn piece(bytes: &[u8], size: usize) -> Option<(&[u8], &[u8])>
     Some(bytes.split_at(size))
 }
 
-/// The index of the first byte of this value.
+/// Returns the index of the first byte of this value.
 fn position_of(bytes: &[u8], byte: u8) -> Option<usize>
     ensures { result ≡ position (λ x. x == byte) bytes.now }
 {
     bytes.iter().position(|x| *x == byte)
 }
 
-/// The bytes before and after the first byte of this value.
+/// Returns the bytes before and after the first byte of this value.
 ///
-/// None where no byte has the value, and where there are fewer than two bytes, even if the one byte has it.
+/// None if no byte has the value. None too if there are fewer than two bytes, even if the only byte has the value.
 pub fn up_to(bytes: &[u8], byte: u8) -> Option<(&[u8], &[u8])>
     ensures { option_map (λ x. (x.0.now, x.1.now)) result ≡ split_at_byte byte bytes.now }
 {
@@ -45,11 +45,10 @@ pub fn up_to(bytes: &[u8], byte: u8) -> Option<(&[u8], &[u8])>
     Some((&bytes[..place], &bytes[place + 1..]))
 }
 
-/// The offset number (varint) at the front, and the bytes after it (gitformat-index, entries of version 4).
+/// Returns the offset number (varint) at the start, and the bytes after it (gitformat-index, entries of version 4).
 ///
-/// Each byte gives seven bits, the highest first, and one is added before each further byte. Bit 7, the continuation
-/// bit, is set in each byte but the last. None where the last byte is missing, and where the number has more than 64
-/// bits.
+/// Each byte has seven bits, the highest first, and one is added before each further byte. Bit 7, the continuation bit,
+/// is set in each byte except the last. None if the last byte is missing, or if the number has more than 64 bits.
 pub fn offset(bytes: &[u8]) -> Option<(u64, &[u8])>
     ensures { option_map (λ x. (x.0, x.1.now)) result ≡ offset_at bytes.now }
 {
@@ -64,7 +63,7 @@ pub fn offset(bytes: &[u8]) -> Option<(u64, &[u8])>
     None
 }
 
-/// The number of the first four bytes, and the bytes after them; None where there are fewer.
+/// Returns the number of the first four bytes, and the bytes after them. None if there are fewer.
 pub fn u32(bytes: &[u8]) -> Option<(u32, &[u8])>
     ensures { option_map (λ x. (x.0, x.1.now)) result ≡ number_at 4 bytes.now }
 {
@@ -72,14 +71,14 @@ pub fn u32(bytes: &[u8]) -> Option<(u32, &[u8])>
     Some((from_be_u32(front), rest))
 }
 
-/// Whether it is an octal digit.
+/// Returns whether the byte is an octal digit.
 pub fn is_octal_digit(b: u8) -> bool
     ensures { result ≡ is_octal_digit b }
 {
     b >= b'0' && b <= b'7'
 }
 
-/// The number of one octal digit or more; None where another byte stands among them, and where it has more than 32
+/// Returns the number of one octal digit or more. None if the text has another byte, or if the number has more than 32
 /// bits.
 pub fn octal(text: &[u8]) -> Option<u32>
     ensures { result ≡ octal_number text.now }
@@ -97,7 +96,7 @@ pub fn octal(text: &[u8]) -> Option<u32>
     Some(value)
 }
 
-/// The number of the first eight bytes, and the bytes after them; None where there are fewer.
+/// Returns the number of the first eight bytes, and the bytes after them. None if there are fewer.
 pub fn u64(bytes: &[u8]) -> Option<(u64, &[u8])>
     ensures { option_map (λ x. (x.0, x.1.now)) result ≡ number_at 8 bytes.now }
 {
@@ -105,7 +104,7 @@ pub fn u64(bytes: &[u8]) -> Option<(u64, &[u8])>
     Some((from_be_u64(front), rest))
 }
 
-/// The id of this kind, 20 or 32 bytes, and the bytes after it; None where there are fewer.
+/// Returns the id of this hash algorithm, 20 or 32 bytes, and the bytes after it. None if there are fewer.
 pub fn id(bytes: &[u8], kind: Kind) -> Option<(ObjectId, &[u8])>
     ensures { option_map (λ x. (x.0, x.1.now)) result ≡ object_id_at kind bytes.now }
 {
@@ -113,7 +112,7 @@ pub fn id(bytes: &[u8], kind: Kind) -> Option<(ObjectId, &[u8])>
     Some((ObjectId::of_kind(kind, front), rest))
 }
 
-/// The number at this index, counted from 0, among numbers of four bytes.
+/// Returns the number at the index `place`, counted from 0, of numbers of four bytes each.
 pub fn number(numbers: &[u8], place: usize) -> u32
     requires { 4 * place + 4 ≤ length numbers.now }
     ensures { result ≡ number numbers.now place }
@@ -121,7 +120,7 @@ pub fn number(numbers: &[u8], place: usize) -> u32
     from_be_u32(&numbers[4 * place..4 * place + 4])
 }
 
-/// Whether so many bytes are no more than the limit, where there is one.
+/// Returns whether `size` bytes are within the limit. None is no limit.
 pub fn is_within(limit: Option<usize>, size: usize) -> bool
     ensures exact { result ≡ is_within limit size }
     ensures fact { IsTrue result ↔ IsWithin limit size }
@@ -132,7 +131,7 @@ pub fn is_within(limit: Option<usize>, size: usize) -> bool
     size <= limit
 }
 
-/// Whether so many values of this size in bytes are no more than the limit, where there is one.
+/// Returns whether `count` values of `size` bytes each are within the limit. None is no limit.
 pub fn are_within(limit: Option<usize>, size: u64, count: u64) -> bool
     ensures { result ≡ is_within limit (size * count) }
 {

@@ -1,10 +1,10 @@
 -- A state with other entries.
 use Rattle.std.proofs.Common.{◌≡◌, List, length, sym, ap, ◌∙◌, All}
 use Rattle.std.proofs.lemmas.List.{with_items_is}
-use Rattle.index_entries.specs.declared.Entry.{Entry}
+use Rattle.entry_list.specs.declared.Entry.{Entry}
 use Rattle.index_state.specs.declared.State.{State}
 use Rattle.index_state.specs.Edits.{edited, with_entries}
-use Rattle.index_entries.specs.Record.{IsPlaced, records_in}
+use Rattle.entry_list.specs.Record.{IsPlaced, records_in}
 use Rattle.index_state.specs.State.{PathsInStorage, contents, entries_of, storage_of}
 
 pub entries_of-with_entries : (s : State) (es : List Entry) → length es ≡ length (entries_of s)

@@ -1,13 +1,13 @@
--- A storable index stays so where entries are taken out, and others get flags.
+-- A storable index stays storable if entries are removed, and others get other flags.
 use Rattle.std.proofs.Common.{◌≡◌, ◌≤◌, List, ℕ, All, length}
 use Rattle.std.specs.Prelude.{◌≢◌}
 use Rattle.index_parts.specs.Id.{id_kind}
-use Rattle.index_entries.specs.Record.{Record, IsSized}
+use Rattle.entry_list.specs.Record.{Record, IsSized}
 use Rattle.index_state.specs.Edits.{edited}
-use Rattle.index_format.specs.Contents.{Contents}
-use Rattle.index_format.specs.Storable.{IsStorable}
+use Rattle.index_model.specs.Contents.{Contents}
+use Rattle.index_model.specs.Storable.{IsStorable}
 
--- other records in place of the value's, where what holds of each of those, whatever its flags, holds of each of these
+-- Other records instead of the value's. Each property that all of those have, whatever their flags, all of these have.
 pub flags_storable : (v : Contents) (rs : List Record) → IsStorable v → ((P : Record → Type 0)
     → ((r : Record) (flags : ℕ) → P r → P (record r { flags = flags })) → All P v.records → All P rs)
     → IsStorable (edited v rs)

@@ -3,12 +3,12 @@ use Rattle.std.proofs.Common.{◌≡◌, ℕ, ◌<◌, List, length, get_or, Opt
 use Rattle.std.proofs.lemmas.List.{length-map}
 use Rattle.std.specs.List.{HoldsAt}
 use Rattle.std.specs.Prelude.{option_and_then, slice_get}
-use Rattle.index_entries.specs.Record.{Record, record_in, records_in}
-use Rattle.index_entries.specs.declared.Entry.{Entry}
+use Rattle.entry_list.specs.Record.{Record, record_in, records_in}
+use Rattle.entry_list.specs.declared.Entry.{Entry}
 use Rattle.index_state.specs.State.{entries_of, records, storage_of}
 use Rattle.index_state.specs.StateSearches.{IsEntryWith}
 use Rattle.index_state.specs.declared.State.{State}
-use Rattle.index_lookups.proofs.Closest.{entry_given, holds_entry}
+use Rattle.entry_lookup.proofs.Closest.{entry_given, holds_entry}
 
 module _ (storage : List ℕ) (es : List Entry) (i : ℕ) (e : Entry) (read : e ≡ get_or es i e) where
   pub given_holds : (P : Record → Type 0) → (i < length (records_in storage es)) × HoldsAt P (records_in storage es) i

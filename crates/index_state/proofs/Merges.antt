@@ -1,21 +1,21 @@
--- What is kept where a shared index is merged into a split one.
+-- The properties that are preserved if a shared index is merged into a split one.
 use Rattle.std.proofs.Common.{◌≡◌, ℕ, ◌≤◌, List, length, All, Option, Some, None, refl, sym, ap, subst}
 use Rattle.std.specs.Prelude.{◌≢◌, IfSome}
 use Rattle.index_parts.specs.Id.{id_kind}
 use Rattle.index_parts.specs.declared.hash.Kind.{Kind}
-use Rattle.index_cached_tree.specs.StoredTree.{IsStorableTree}
-use Rattle.index_entries.specs.declared.Entry.{Entry}
-use Rattle.index_merge.specs.declared.merge.Error.{Error as MergeError}
-use Rattle.index_merge.specs.declared.merge.Error.TheVariants as merges
-use Rattle.index_merge.specs.Merge.{replaced, IsMerge, IsMergeFault}
-use Rattle.index_merge.specs.MergeSteps.{SaysMerge, merge_error}
-use Rattle.index_entries.specs.Record.{Record, IsSized, IdsAreOf, records_in}
-use Rattle.index_merge.proofs.Merged.{all_merged}
-use Rattle.index_split.specs.Link.{BitmapPair, LinkValue}
-use Rattle.index_state.specs.Dissolve.{IsDissolved, IsMerged, MergesBy, broken, SaysDissolve}
-use Rattle.index_format.proofs.Ids.{entries_have, records_of}
-use Rattle.index_format.specs.Contents.{Contents}
-use Rattle.index_format.specs.Storable.{IsStorable}
+use Rattle.ext_tree.specs.StoredTree.{IsStorableTree}
+use Rattle.entry_list.specs.declared.Entry.{Entry}
+use Rattle.ext_merge.specs.declared.merge.Error.{Error as MergeError}
+use Rattle.ext_merge.specs.declared.merge.Error.TheVariants as merges
+use Rattle.ext_merge.specs.Merge.{replaced, IsMerge, IsMergeFault}
+use Rattle.ext_merge.specs.MergeSteps.{MergeCause, merge_error}
+use Rattle.entry_list.specs.Record.{Record, IsSized, IdsAreOf, records_in}
+use Rattle.ext_merge.proofs.Merged.{all_merged}
+use Rattle.ext_split.specs.Link.{BitmapPair, LinkValue}
+use Rattle.index_state.specs.Dissolve.{IsDissolved, IsMerged, MergesBy, broken, DissolveCause}
+use Rattle.index_model.proofs.Ids.{entries_have, records_of}
+use Rattle.index_model.specs.Contents.{Contents}
+use Rattle.index_model.specs.Storable.{IsStorable}
 
 abbrev HasLegalPath : Record → Type 0
 HasLegalPath r = 4095 ≤ length r.path → All (λ b. b ≢ 0) r.path
@@ -75,7 +75,7 @@ dissolved_by l b shared old new none some m = record {
 -- a fault of the entries is one of the link
 pub says_dissolve : (e : MergeError) (l : LinkValue) (b : BitmapPair) (shared split : Contents)
     → shared.extensions.link ≡ None → l.bitmaps ≡ Some b
-    → SaysMerge e (IsMergeFault b.delete.words b.replace.words shared.records split.records)
-    → SaysDissolve (merge_error e) l shared split
+    → MergeCause e (IsMergeFault b.delete.words b.replace.words shared.records split.records)
+    → DissolveCause (merge_error e) l shared split
 says_dissolve (merges.Corrupt text) l b shared split none some h = broken b text.now none some h refl
 says_dissolve merges.Memory l b shared split none some h = tt

@@ -7,15 +7,15 @@ use Rattle.std.proofs.lemmas.List.{drop-set-lt, get_or-drop, length-drop, map-ap
 use Rattle.std.proofs.lemmas.List.Elements.{All-nil, All-cons, All-map, All-weaker}
 use Rattle.index_parts.specs.Id.{id_kind}
 use Rattle.index_parts.specs.declared.hash.Kind.{Kind}
-use Rattle.index_metadata.specs.declared.entry.stat.FileTime.{FileTime}
-use Rattle.index_entries.specs.Record.{IdsAreOf, IsPlaced, IsSized, Record, record_in, records_in}
-use Rattle.index_entries.specs.declared.Entry.{Entry}
+use Rattle.entry_fields.specs.declared.entry.stat.FileTime.{FileTime}
+use Rattle.entry_list.specs.Record.{IdsAreOf, IsPlaced, IsSized, Record, record_in, records_in}
+use Rattle.entry_list.specs.declared.Entry.{Entry}
 use Rattle.index_state.specs.Edits.{with_records}
 use Rattle.index_state.specs.Racy.{MayBeTrusted, is_smudged, smudged, smudged_entry}
-use Rattle.index_format.specs.Contents.{Contents}
-use Rattle.index_format.specs.Storable.{IsStorable}
+use Rattle.index_model.specs.Contents.{Contents}
+use Rattle.index_model.specs.Storable.{IsStorable}
 
--- what holds of each, and stays where it is changed, holds of each changed one
+-- a property of each element that is preserved by the change holds for each changed one
 pub all_mapped : {A B : Type 0} (P : A → Type 0) (Q : B → Type 0) (f : A → B) → ((x : A) → P x → Q (f x))
     → (xs : List A) → All P xs → All Q (map f xs)
 all_mapped P Q f each xs h = All-map Q f xs (All-weaker P (λ x. Q (f x)) each xs h)

@@ -1,5 +1,5 @@
--- An empty index is storable, so is one of leaves alone; it stays so where an entry is added that is, where entries
--- move, and where one is taken out.
+-- An empty index is storable, and so is one of leaves only. A storable index stays storable if a storable entry is
+-- added, if entries are moved, and if one is removed.
 use Rattle.std.proofs.Common.{◌≡◌, ℕ, ◌<◌, ◌≤◌, Bool, false, List, ◌∷◌, length, get_or, All, ap, ◌∙◌}
 use Rattle.std.specs.Prelude.{◌≢◌, IfSome}
 use Rattle.std.proofs.lemmas.List.Elements.{All-nil, All-push, All-tail, All-weaker}
@@ -8,16 +8,16 @@ use Rattle.std.specs.List.Sorted.{IsPermutation}
 use Rattle.std.proofs.lemmas.List.Sorted.{All-permutation, IsPermutation-map, IsPermutation-remove}
 use Rattle.index_parts.specs.Id.{id_kind}
 use Rattle.index_parts.specs.declared.hash.Kind.{Kind}
-use Rattle.index_metadata.specs.declared.entry.stat.FileTime.{FileTime}
-use Rattle.index_entries.specs.Held.{Appends}
-use Rattle.index_entries.specs.declared.Entry.{Entry}
-use Rattle.index_entries.specs.Record.{IdsAreOf, Record, IsSized, record_in, records_in}
-use Rattle.index_entries.specs.Storable.{IsStorableIn}
-use Rattle.index_cached_tree.specs.StoredTree.{IsStorableTree}
-use Rattle.index_tree_reader.proofs.Fits.{FitsFile}
+use Rattle.entry_fields.specs.declared.entry.stat.FileTime.{FileTime}
+use Rattle.entry_list.specs.Held.{Appends}
+use Rattle.entry_list.specs.declared.Entry.{Entry}
+use Rattle.entry_list.specs.Record.{IdsAreOf, Record, IsSized, record_in, records_in}
+use Rattle.entry_list.specs.Storable.{IsStorableIn}
+use Rattle.ext_tree.specs.StoredTree.{IsStorableTree}
+use Rattle.tree_decode.proofs.Fits.{FitsFile}
 use Rattle.index_state.specs.Edits.{edited, empty_contents, refit, with_record, with_records}
-use Rattle.index_format.specs.Contents.{Contents}
-use Rattle.index_format.specs.Storable.{IsStorable}
+use Rattle.index_model.specs.Contents.{Contents}
+use Rattle.index_model.specs.Storable.{IsStorable}
 
 abbrev HasLegalPath : Record → Type 0
 HasLegalPath r = 4095 ≤ length r.path → All (λ b. b ≢ 0) r.path
@@ -40,7 +40,7 @@ push_storable v r h id path fits = record {
   tree = h.tree;
 }
 
--- other records in place of the value's, where what holds of each of those holds of each of these
+-- Other records instead of the value's. Each property that all of those have, all of these have.
 keeps_storable : (v : Contents) (rs : List Record) (fit : Bool) → IsStorable v
     → ((P : Record → Type 0) → All P v.records → All P rs) → IsStorable (refit v rs fit)
 keeps_storable v rs fit h keeps = record {
@@ -63,7 +63,7 @@ fewer_storable v storage es i e is inside read h =
     keeps_storable v (records_in storage (remove es i)) false h (λ P a. All-tail P (record_in storage e)
     (records_in storage (remove es i)) (All-permutation P (records_in storage es) _ moved (rw is at a)))
 
--- ids stay of a kind where an entry of that kind is appended
+-- all ids are of a hash algorithm if an entry of that algorithm is appended
 pub appended_ids : (kind : Kind) (s : List ℕ) (es : List Entry) (r : Record) (t : List ℕ) (fs : List Entry)
     → Appends s es r t fs → IdsAreOf kind es → id_kind r.id ≡ kind → IdsAreOf kind fs
 appended_ids kind s es r t fs a h same =

@@ -4,14 +4,14 @@ use Rattle.std.proofs.Common.{refl, sym, ap, ◌∙◌, arith, Some}
 use Rattle.std.specs.Prelude.{◌↔◌, ◌&&◌, is_some, IsTrue}
 use Rattle.std.proofs.lemmas.Bool.{false≢true}
 use Rattle.std.proofs.lemmas.List.{length-map}
-use Rattle.index_entries.specs.declared.Entry.{Entry}
-use Rattle.index_entries.specs.Order.{IsStrictlyOrdered}
-use Rattle.index_entries.specs.Record.{Record, record_in, records_in}
-use Rattle.index_entries.specs.Sorted.{IsFall, IsFirstFall}
-use Rattle.index_entries.proofs.Sorting.{record_at}
+use Rattle.entry_list.specs.declared.Entry.{Entry}
+use Rattle.entry_list.specs.Order.{IsStrictlyOrdered}
+use Rattle.entry_list.specs.Record.{Record, record_in, records_in}
+use Rattle.entry_list.specs.Sorted.{IsFall, IsFirstFall}
+use Rattle.entry_list.proofs.Sorting.{record_at}
 use Rattle.index_state.specs.declared.verify.entries.Error.{Error}
 use Rattle.index_state.specs.declared.verify.entries.Error.TheVariants.{OutOfOrder, Memory}
-use Rattle.index_state.specs.SoundState.{NamesBoth, SaysFall}
+use Rattle.index_state.specs.SoundState.{NamesBoth, OrderCause}
 
 pub not_ordered : (rs : List Record) (place : ℕ) → IsFall rs place → IsStrictlyOrdered rs → ⊥
 not_ordered [] place f o = absurd (omega (arith, f.in_range))
@@ -19,7 +19,7 @@ not_ordered (r ∷ rs) place f o = f.falls r (o.less (place - 1) place r (omega 
 
 pub says_fall : (storage : List ℕ) (es : List Entry) (place : ℕ) (a b : Entry) (e : Error)
     → IsFirstFall (records_in storage es) (Some place) → a ≡ get_or es (place - 1) a → b ≡ get_or es place b
-    → NamesBoth place (record_in storage a) (record_in storage b) e → SaysFall (records_in storage es) e
+    → NamesBoth place (record_in storage a) (record_in storage b) e → OrderCause (records_in storage es) e
 says_fall storage es place a b (OutOfOrder index path stage previous_path previous_stage) fall ea eb named =
     rw named.0 (
       fall,

@@ -1,4 +1,4 @@
-//! Asking an index for its entries, and editing them.
+//! Access to the entries of an index, and edits of them.
 
 mod edit;
 mod extensions;
@@ -11,28 +11,29 @@ mod storage;
 
 ghost use Rattle.std.specs.Borrow.{sem};
 ghost use Rattle.std.specs.Prelude.{◌≡◌, IfSome, option_copied};
-ghost use Rattle.index_metadata.specs.Flags.{stage_code};
+ghost use Rattle.entry_fields.specs.Flags.{stage_code};
 ghost use Rattle.index_state.specs.Edits.{LendsEntries};
-ghost use Rattle.index_lookups.specs.Lookup.{HasKey, IsKeyAt, place_of};
-ghost use Rattle.index_lookups.specs.Searches.{FindsPath, SearchesKey, SearchesPath};
+ghost use Rattle.entry_lookup.specs.Lookup.{HasKey, IsKeyAt, record_index};
+ghost use Rattle.entry_lookup.specs.Searches.{FindsPath, SearchesKey, SearchesPath};
 ghost use Rattle.index_state.specs.State.{entries_of, records};
-ghost use Rattle.index_state.specs.Edits.{record_of};
+ghost use Rattle.index_state.specs.Edits.{record_from_parts};
 ghost use Rattle.index_state.specs.StateEdits.{Pushes};
 ghost use Rattle.index_state.specs.StateSearches.{FindsEntry, FindsPlace, IsEntryWith};
 
 use crate::State;
-use index_entries::list::append;
-use index_entries::{Entry, Pathless};
-use index_lookups::search;
-use index_metadata::entry::{Flags, Mode, Stage, Stat};
+use entry_fields::entry::{Flags, Mode, Stage, Stat};
+use entry_list::list::append;
+use entry_list::{Entry, Pathless};
+use entry_lookup::search;
 use index_parts::hash::ObjectId;
 use std::alloc::AllocError;
 
 impl State {
-    /// The place of the entry at the path and the stage, counted from 0, or None.
+    /// Returns the index of the entry at the path and the stage, counted from 0, or `None`.
     ///
-    /// Over entries that strictly increase by path, then stage, it is the one place, and None says that there is none.
-    /// Over other entries a place still has that path and stage, and None says nothing.
+    /// If the entries strictly increase by path, then stage, the index is the only one, and `None` means that there is
+    /// no such entry. In any other order the entry at a returned index still has that path and stage, and `None` has no
+    /// meaning.
     pub fn entry_index_by_path_and_stage(&self, path: &[u8], stage: Stage) -> Option<usize>
         ensures found { IfSome result (IsKeyAt path.now (stage_code stage) (records self.now)) }
         ensures answer { FindsPlace path.now (stage_code stage) (records self.now) result }
@@ -40,44 +41,44 @@ impl State {
         self.search_path_and_stage(path, stage).0.ok()
     }
 
-    /// The entry at the path and the stage, or None, as
-    /// [`entry_index_by_path_and_stage`](State::entry_index_by_path_and_stage) finds its place.
+    /// Returns the entry at the path and the stage, or `None`. Its index is that of
+    /// [`entry_index_by_path_and_stage`](State::entry_index_by_path_and_stage).
     pub fn entry_by_path_and_stage(&self, path: &[u8], stage: Stage) -> Option<&Entry>
         ensures found { IfSome result
             (λ e. IsEntryWith (HasKey path.now (stage_code stage)) self.now e.now) }
-        ensures answer { FindsEntry (place_of path.now (stage_code stage)) self.now
+        ensures answer { FindsEntry (record_index path.now (stage_code stage)) self.now
             (option_copied result) }
     {
         let idx = self.entry_index_by_path_and_stage(path, stage)?;
         Some(&self.parts.entries[idx])
     }
 
-    /// A place of an entry at the path, whatever its stage, or, as an error, the place where the path would be put in:
-    /// the number of paths below it.
+    /// Returns the index of an entry at the path, whatever its stage. The error is the index at which the path would be
+    /// inserted: the number of paths below it.
     ///
-    /// It is promised over entries whose paths never fall. Over other entries a place still has that path, and an error
-    /// is at most the number of entries and says no more.
+    /// This is guaranteed if the paths of the entries never decrease. In any other order the entry at a returned index
+    /// still has that path. An error is then at most the number of entries.
     pub fn entry_index_by_path(&self, path: &[u8]) -> Result<usize, usize>
         ensures { FindsPath path.now (records self.now) result }
     {
         self.search_path(path).0
     }
 
-    /// What [`entry_index_by_path`](State::entry_index_by_path) answers, and how many times the path was compared with
-    /// that of an entry: over n entries, in any order, at most one more than n has binary digits, and at least once
-    /// where there are entries.
+    /// Returns what [`entry_index_by_path`](State::entry_index_by_path) returns, and how many times the path was
+    /// compared with that of an entry. For n entries, in any order, that is at most the number of binary digits of n
+    /// plus one. If there are entries, it is at least one.
     pub fn search_path(&self, path: &[u8]) -> (Result<usize, usize>, usize)
         ensures { SearchesPath path.now (records self.now) result }
     {
         search::search_path(&self.slice(), path)
     }
 
-    /// The place of the entry at the path and the stage or, as an error, the place where it would be put in: the number
-    /// of entries that are below it by path, then stage. Beside it how many times the path was compared with that of an
-    /// entry, as [`search_path`](State::search_path) bounds it.
+    /// Returns the index of the entry at the path and the stage, and how many times the path was compared with that of
+    /// an entry. The error is the index at which such an entry would be inserted: the number of entries below it by
+    /// path, then stage. The number of comparisons is bounded as in [`search_path`](State::search_path).
     ///
-    /// It is promised over entries that strictly increase by path, then stage. Over other entries a place still has
-    /// that path and stage, and an error is at most the number of entries and says no more.
+    /// This is guaranteed if the entries strictly increase by path, then stage. In any other order the entry at a
+    /// returned index still has that path and stage. An error is then at most the number of entries.
     pub fn search_path_and_stage(&self, path: &[u8], stage: Stage) -> (Result<usize, usize>, usize)
         ensures { SearchesKey path.now (stage_code stage) (records self.now) result }
     {
@@ -86,11 +87,11 @@ impl State {
 }
 
 impl State {
-    /// The entries, lent for writing; what was last written through the slice is what the state has then. The extensions
-    /// aren't known to fit the entries behind it; all else stays.
+    /// Borrows the entries mutably. The state keeps what was last written through the slice. The extensions aren't
+    /// known to match the entries afterwards. Everything else is unchanged.
     ///
-    /// An entry from another state brings a range of that state's storage:
-    /// [`paths_in_storage`](State::paths_in_storage) tells whether all ranges still lie inside this one's.
+    /// An entry from another state brings a range of that state's storage.
+    /// [`paths_in_storage`](State::paths_in_storage) returns whether all ranges are still inside this storage.
     pub fn entries_mut(&mut self) -> &mut [Entry]
         ensures* writes_back { sem 𝓛 (LendsEntries self.entry result) }
         ensures value { result.now ≡ entries_of self.old }
@@ -98,13 +99,16 @@ impl State {
         self.parts.entries_mut()
     }
 
-    /// Puts an entry at the end, and its path behind the others in the storage. The extensions aren't known to fit the
-    /// entries behind it; all else stays.
+    /// Appends an entry, and appends its path to the storage. The extensions aren't known to match the entries
+    /// afterwards. Everything else is unchanged.
     ///
-    /// It's dangerous because nothing is looked at: the entry stands at the end wherever it belongs, also beside
-    /// another with its path and stage, and searches by path promise less until the entries are in order again. Room
-    /// for path and entry is asked for first, so after an error the state is as it was. A state that can be written
-    /// still can be where the id is of its kind, and the path has fewer than 4095 bytes or no NUL.
+    /// It is dangerous because nothing is checked. The entry is at the end wherever it belongs, even if another entry
+    /// has its path and stage. Searches by path guarantee less until the entries are in order again.
+    ///
+    /// A state that can be written still can be, if the id is of its hash algorithm, and the path has fewer than 4095
+    /// bytes or no NUL.
+    ///
+    /// The error is an allocation failure. The state is then unchanged.
     pub fn dangerously_push_entry(
         &mut self,
         stat: Stat,
@@ -113,7 +117,7 @@ impl State {
         mode: Mode,
         path: &[u8],
     ) -> Result<(), AllocError>
-        ensures { Pushes (record_of path.now stat id flags mode) self.old self.new result }
+        ensures { Pushes (record_from_parts path.now stat id flags mode) self.old self.new result }
     {
         let entry = Pathless {
             stat,

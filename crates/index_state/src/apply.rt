@@ -1,32 +1,41 @@
-//! Making changes of an index, all or none.
+//! Applies changes to an index, all or none.
 
 ghost use Rattle.index_state.specs.StateChanges.{Applies};
 
 use crate::State;
-use index_edits::change::{ApplyError, Change};
-use index_objects::check::ComponentCheck;
-use index_updates::parts;
+use base_objects::check::ComponentCheck;
+use entry_edit::change::{ApplyError, Change};
+use index_edit::parts;
 
 impl State {
-    /// Makes changes one after another, all or none, as git does by `git update-index --index-info`: an entry that is
-    /// staged takes the place of what has its path, at its stage or, where it is merged, at any; and of files where it
-    /// needs a folder, or the other way round. Each name of a path that is staged goes through `check`.
+    /// Applies changes one after another, all or none, as `git update-index --index-info` does. A staged entry replaces
+    /// the entry with its path and stage. If it is merged, it replaces all stages. It also replaces files at a path at
+    /// which it needs a directory, and entries below its own path. Each name of a staged path must pass `check`.
     ///
-    /// What speaks of the entries is kept with them. The cached tree loses the counts on the way to each path, so that
-    /// it tells nothing that isn't so, and the untracked cache what it has of the directory of each path, or of all on
-    /// the way, as git does it. Sides of conflicts that go are recorded in resolve-undo, so that `git checkout -m` gets
-    /// them back. What a file system monitor said moves along with the entries, and what is staged may have changed
-    /// since; it goes where it isn't of the entries. Whether the extensions fit stays as it was. Where a file can hold
-    /// the state, and one of any version, as no path has a NUL, so it is afterwards.
+    /// The extensions are updated with the entries, as git does:
     ///
-    /// [`ApplyError::Refused`]: the first change that is refused by itself, by its place; or else the first whose path
-    /// lies in a directory that a sparse index has as one entry. [`ApplyError::Memory`] is want of it.
-    /// After an error the state is as it was. It is promised over entries that strictly increase by path, then stage,
-    /// and whose paths lie in the storage ([`paths_in_storage`](State::paths_in_storage)); over others the changed list
-    /// is in no order that is told.
+    /// - In the cache tree the counts on the path to each change are invalidated, so no wrong node remains.
+    /// - In the untracked cache the data of each path's directory is removed, or of all directories on the path.
+    /// - Removed sides of conflicts are recorded in resolve-undo, so that `git checkout -m` can restore them.
+    /// - The answer of a file system monitor is adjusted to the new indexes. Staged entries may have changed since that
+    ///   answer. It is removed if it doesn't match the entries.
     ///
-    /// Over n entries, m changes whose paths rise cost n + m log n, in any other order up to n each. The entries are
-    /// copied once, and so is resolve-undo. Each entry that a monitor couldn't vouch for is one search more.
+    /// Whether the extensions match is unchanged. A storable state stays storable. If no path contains a NUL, that
+    /// stays so too, and any version can store it.
+    ///
+    /// This is guaranteed if the entries strictly increase by path, then stage, and all paths are in the storage
+    /// ([`paths_in_storage`](State::paths_in_storage)). Otherwise the order of the resulting list isn't specified.
+    ///
+    /// For n entries, m changes with increasing paths cost n + m log n; in any other order up to n each. The entries
+    /// are copied once, and so is resolve-undo. Each entry that the monitor doesn't vouch for costs one more search.
+    ///
+    /// # Errors
+    ///
+    /// - [`ApplyError::Refused`]: the first change that is invalid by itself, by its index. If there is none, the first
+    ///   whose path is in a directory that a sparse index has as one entry.
+    /// - [`ApplyError::Memory`]: an allocation failure.
+    ///
+    /// After an error the state is unchanged.
     pub fn apply<C: ComponentCheck>(
         &mut self,
         check: &C,

@@ -1,27 +1,32 @@
-//! Making one change of an index.
+//! Applies one change to an index.
 
 ghost use Rattle.index_state.specs.StateChanges.{Resolves, Stages, Unstages};
 
 use crate::State;
-use index_edits::error::Error;
-use index_edits::stage::Displaced;
-use index_entries::Pathless;
-use index_objects::check::ComponentCheck;
-use index_updates::parts;
+use base_objects::check::ComponentCheck;
+use entry_edit::error::Error;
+use entry_edit::stage::Displaced;
+use entry_list::Pathless;
+use index_edit::parts;
 
 impl State {
-    /// Stages an entry at a path, as `git update-index --add --replace` does, and tells what went where it came.
+    /// Stages an entry at a path, as `git update-index --add --replace` does, and returns the entries that it replaced.
     ///
-    /// The entry takes the place of what has its path, at its stage or, where it is merged, at any; and of what is of
-    /// the same stage where one is a file and the other needs a folder. Each name of the path goes through `check`. What
-    /// speaks of the entries is kept, as [`apply`](State::apply) keeps it for this one change.
+    /// The entry replaces the entry with its path and stage. If it is merged, it replaces all stages. It also replaces
+    /// entries of the same stage if one is a file and the other needs a directory there. Each name of the path must
+    /// pass `check`. The extensions are updated as [`apply`](State::apply) updates them for this change.
     ///
-    /// An error is what is wrong with the path, the mode, the id or a name of the path; or else
-    /// [`Error::InWholeDirectory`], where the path lies in a directory that a sparse index has as one entry; or else a
-    /// want of room or memory. It leaves the state as it was. It is promised over entries that strictly increase by
-    /// path, then stage, and whose paths lie in the storage ([`paths_in_storage`](State::paths_in_storage)); over
-    /// others the changed list is in no order that is told. It makes a few searches, moves what lies behind, and copies
-    /// resolve-undo.
+    /// The result is guaranteed if the entries strictly increase by path, then stage, and all paths are in the storage
+    /// ([`paths_in_storage`](State::paths_in_storage)). Otherwise the order of the resulting list isn't specified. It
+    /// costs a few searches, moving the entries after it, and a copy of resolve-undo.
+    ///
+    /// # Errors
+    ///
+    /// The first of these that applies. The state is then unchanged.
+    ///
+    /// - The path, the mode, the id or a name of the path is invalid.
+    /// - [`Error::InWholeDirectory`]: the path is in a directory that a sparse index has as one entry.
+    /// - The storage has no room for the path, or an allocation fails.
     pub fn stage<C: ComponentCheck>(
         &mut self,
         check: &C,
@@ -33,8 +38,8 @@ impl State {
         parts::stage(&mut self.parts, check, entry, path)
     }
 
-    /// Puts one entry that is merged, whatever stage its flags have, in place of all stages of its path, as git-add does
-    /// once a conflict is solved. All else is as [`stage`](State::stage) does it.
+    /// Replaces all stages of a path by one merged entry, whatever stage its flags have, as git-add does after a
+    /// conflict is resolved. Check, extensions, result and errors are those of [`stage`](State::stage).
     pub fn resolve<C: ComponentCheck>(
         &mut self,
         check: &C,
@@ -46,13 +51,19 @@ impl State {
         parts::resolve(&mut self.parts, check, entry, path)
     }
 
-    /// Takes the entries at a path out, whatever their stage, as `git update-index --force-remove` does, and tells how
-    /// many went. The storage of paths stays.
+    /// Removes the entries at a path, whatever their stage, as `git update-index --force-remove` does, and returns how
+    /// many there were. The storage of paths is unchanged.
     ///
-    /// What speaks of the entries is kept, as [`apply`](State::apply) keeps it for this one change, also where no entry
-    /// has the path. An error is [`Error::InWholeDirectory`], where the path lies in a directory that a sparse index has
-    /// as one entry, or want of memory, and leaves the state as it was. It is promised over entries that strictly
-    /// increase by path, then stage; over others nothing is said of which go.
+    /// The extensions are updated as [`apply`](State::apply) updates them for this change, even if no entry has the
+    /// path. The result is guaranteed if the entries strictly increase by path, then stage. Otherwise it isn't
+    /// specified which entries are removed.
+    ///
+    /// # Errors
+    ///
+    /// - [`Error::InWholeDirectory`]: the path is in a directory that a sparse index has as one entry.
+    /// - An allocation failure.
+    ///
+    /// After an error the state is unchanged.
     pub fn unstage(&mut self, path: &[u8]) -> Result<usize, Error>
         ensures { Unstages path.entry self.old self.new result }
     {

@@ -1,13 +1,13 @@
-//! A state as text, for who looks for a fault in a program.
+//! Formats a state as text, for debugging.
 
 use crate::State;
 use bitflags::Flags as _;
 use bstr::ByteSlice;
 use std::fmt;
 
-/// Lines: the version, the kind of ids and the number of entries, then for each entry its mode in base 8, id, stage and
-/// quoted path, in the order of the file; no entries where a path lies outside of the storage, as in no state that was
-/// read.
+/// Writes the version, the hash algorithm and the number of entries, then a line for each entry. The line has the
+/// entry's mode in octal, id, stage and quoted path, in the order of the file. No entries are written if a path is
+/// outside of the storage; no state that was read has such a path.
 impl fmt::Debug for State {
     fn fmt<W: fmt::Write>(&self, f: &mut fmt::Formatter<W>) -> fmt::Result {
         let (version, kind) = (self.version(), self.object_hash());

@@ -1,14 +1,14 @@
-//! Merging a shared index into the split one that links to it (gitformat-index, "Split index").
+//! Merges a shared index into the split index that links to it (gitformat-index, "Split index").
 
-ghost use Rattle.index_split.specs.Link.{link_of};
+ghost use Rattle.ext_split.specs.Link.{link_of};
 ghost use Rattle.index_state.specs.Dissolve.{Dissolves};
 
 use crate::State;
-use index_merge::merge;
-use index_split::link::decode::Error;
-use index_split::link::{Link, SplitIndex};
+use ext_merge::merge;
+use ext_split::link::decode::Error;
+use ext_split::link::{Link, SplitIndex};
 
-/// Merges the shared index into the split one, as the link says.
+/// Merges the shared index into the split one by the bitmaps of the link.
 fn merge_shared(link: &Link, split: &mut State, shared: State) -> Result<(), Error>
     ensures { Dissolves (link_of link.now) shared split.old split.new result }
 {

@@ -1,26 +1,27 @@
-//! A new index.
+//! Creates an index.
 
 ghost use Rattle.std.specs.Prelude.{◌≡◌, [], Ok, IfOk, IfErr};
 ghost use Rattle.index_state.specs.Edits.{empty_contents};
-ghost use Rattle.index_format.specs.Storable.{IsStorable};
+ghost use Rattle.index_model.specs.Storable.{IsStorable};
 ghost use Rattle.index_state.specs.State.{PathsInStorage, contents, storage_of};
-ghost use Rattle.index_state.specs.StateTrees.{IsOfTree, SaysNoLeaves};
+ghost use Rattle.index_state.specs.StateTrees.{IsOfTree, ReadTreeCause};
 
 use crate::State;
-use index_entries::Version;
-use index_format::Parts;
-use index_format::extension::Outcome;
-use index_metadata::entry::FileTime;
-use index_objects::check::ComponentCheck;
-use index_objects::object::Find;
+use base_objects::check::ComponentCheck;
+use base_objects::object::Find;
+use entry_fields::entry::FileTime;
+use entry_list::Version;
+use index_model::Parts;
+use index_model::extension::Outcome;
 use index_parts::hash::{Kind, ObjectId};
-use index_tree_reader::from_tree::{Error, leaves_of};
 use std::alloc::Global;
+use tree_decode::from_tree::{Error, leaves_of};
 
 impl State {
-    /// An index with no entry and no extension, of version 2, for ids of this kind. Its timestamp is `now`.
+    /// Returns an index without entries and extensions, of version 2, for ids of the hash algorithm `object_hash`. Its
+    /// timestamp is `now`.
     ///
-    /// It takes no memory: `alloc` serves the entries and paths that are added later.
+    /// No memory is allocated. `alloc` is used for entries and paths that are added later.
     pub fn new(alloc: Global, object_hash: Kind, now: FileTime) -> State
         ensures empty { contents result ≡ empty_contents object_hash now }
         ensures storage { storage_of result ≡ [] }
@@ -40,17 +41,18 @@ impl State {
         }
     }
 
-    /// An index of the leaves of a tree, and of the trees below it, in the order in which they stand there ("Pro Git",
-    /// "Git Objects"): of version 2, with no extension, for ids of the tree's kind. Its timestamp is `now`.
+    /// Returns an index of the leaves of a tree and of the trees below it, in their order ("Pro Git", "Git Objects").
+    /// It has version 2 and no extension, and its ids are of the hash algorithm of `tree`. Its timestamp is `now`.
     ///
-    /// A leaf is what isn't a tree. Its path is made of the names that lead to it, joined by `/`; its mode is that of
-    /// its kind, and its stat numbers and flags are 0. Each reading of an object counts against `max_objects`, before
-    /// `objects` is asked, and a tree is read whole before its names are looked at. Each name goes through `check`
-    /// before what it stands for is listed or read, a link's also as such. The first fault is the error, and leaves
-    /// nothing.
+    /// A leaf is an item that isn't a tree. Its path is the names that lead to it, joined by `/`. Its mode follows from
+    /// the item's mode; stat data and flags are 0. `max_objects` limits how many objects are read; it is compared
+    /// before each call of `objects`. A tree is read completely before its names are checked. Each name must pass
+    /// `check` before its item is listed or read. The name of a link must also pass it as that of a link.
     ///
-    /// Where each tree that is read has its entries in git's order, and no name has a slash, the entries strictly
+    /// If each tree that is read has its entries in git's order, and no name contains a slash, the entries strictly
     /// increase.
+    ///
+    /// The first error is returned, and no state.
     pub fn from_tree<F: Find, C: ComponentCheck>(
         alloc: Global,
         tree: &ObjectId,
@@ -62,7 +64,7 @@ impl State {
         ensures made { IfOk result
             (IsOfTree (F.found objects.now) (C.refusal check.now) tree.now max_objects now) }
         ensures fault { IfErr result
-            (SaysNoLeaves (F.found objects.now) (C.refusal check.now) tree.now max_objects) }
+            (ReadTreeCause (F.found objects.now) (C.refusal check.now) tree.now max_objects) }
     {
         let leaves = leaves_of(alloc, tree, objects, check, max_objects)?;
         let (entries, path_backing) = leaves.into_parts();

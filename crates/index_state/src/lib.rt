@@ -3,11 +3,11 @@
 
 ghost use Rattle.std.specs.Prelude.{◌≡◌, ◌↔◌, ◌<◌, length, slice_get, IsTrue};
 
-use index_entries::paths::paths_without_nul;
-use index_entries::slice::EntrySlice;
-use index_entries::{Entry, PathBacking, PathStorageRef, Version, are_placed};
-use index_format::Parts;
-use index_metadata::entry::FileTime;
+use entry_fields::entry::FileTime;
+use entry_list::paths::paths_without_nul;
+use entry_list::slice::EntrySlice;
+use entry_list::{Entry, PathBacking, PathStorageRef, Version, are_placed};
+use index_model::Parts;
 use index_parts::hash::Kind;
 use std::alloc::AllocError;
 
@@ -22,14 +22,14 @@ mod trees;
 pub mod verify;
 mod write;
 
-/// A git index in memory: entries in the order of the file, and what the extensions say.
+/// A git index in memory: entries in the order of the file, and the extensions.
 #[derive(Drop)]
 pub struct State {
     parts: Parts,
 }
 
-/// The clone has equal entries in the same order, the same storage of paths, and all else the same. It takes as much
-/// memory as its source, and an error is want of it.
+/// Returns a state with equal entries in the same order, the same storage of paths, and everything else equal. It uses
+/// as much memory as its source. The error is an allocation failure.
 impl Clone for State {
     ghost use Rattle.index_state.specs.Edits.{IsUnchanged};
 
@@ -51,38 +51,38 @@ impl Clone for State {
 }
 
 impl State {
-    ghost use Rattle.index_entries.specs.EntryImage.{LackNul};
+    ghost use Rattle.entry_list.specs.EntryImage.{LackNul};
     ghost use Rattle.index_state.specs.State.{PathsInStorage, contents, entries_of, records, storage_of};
 
-    /// The version of the file that was read.
+    /// Returns the version of the file that was read.
     pub fn version(&self) -> Version
         ensures { result ≡ (contents self.now).version }
     {
         self.parts.version
     }
 
-    /// When the file that was read had last been written, as the caller said.
+    /// Returns the time at which the file that was read had last been written, as given by the caller.
     pub fn timestamp(&self) -> FileTime
         ensures { result ≡ (contents self.now).time }
     {
         self.parts.timestamp
     }
 
-    /// Which kind of id the entries have.
+    /// Returns the hash algorithm of the ids.
     pub fn object_hash(&self) -> Kind
         ensures { result ≡ (contents self.now).kind }
     {
         self.parts.object_hash
     }
 
-    /// The entries, in the order of the file.
+    /// Returns the entries, in the order of the file.
     pub fn entries(&self) -> &[Entry]
         ensures { result.now ≡ entries_of self.now }
     {
         self.parts.entries.as_slice()
     }
 
-    /// The entry at a place, counted from 0.
+    /// Returns the entry at an index, counted from 0.
     pub fn entry(&self, idx: usize) -> &Entry
         requires { idx < length (entries_of self.now) }
         ensures { slice_get (entries_of self.now) idx ≡ Some result.now }
@@ -90,37 +90,38 @@ impl State {
         &self.parts.entries[idx]
     }
 
-    /// The storage in which the entries' paths lie, as [`Entry::path_in`] asks for it.
+    /// Returns the storage of the entries' paths, for [`Entry::path_in`].
     pub fn path_backing(&self) -> PathStorageRef<'_>
         ensures { result.now ≡ storage_of self.now }
     {
         self.parts.path_backing.as_slice()
     }
 
-    /// The entries with their paths, lent as one list.
+    /// Borrows the entries with their paths as one list.
     pub(crate) fn slice(&self) -> EntrySlice<'_>
         ensures { result ≡ records self.now }
     {
         EntrySlice::new(&self.parts.entries, &self.parts.path_backing)
     }
 
-    /// Whether an entry stood for a whole directory, or the file was marked so (gitformat-index, "Sparse Directory
-    /// Entries"), when the file was read.
+    /// Returns whether, when the file was read, an entry represented a complete directory, or the file was marked so
+    /// (gitformat-index, "Sparse Directory Entries").
     pub fn is_sparse(&self) -> bool
         ensures { result ≡ (contents self.now).extensions.sparse }
     {
         self.parts.extensions.is_sparse
     }
 
-    /// Whether each entry's path lies inside the storage, so that what is put behind it leaves each path as it is; true
-    /// without entries.
+    /// Returns whether each entry's path is inside the storage. Appending to the storage then leaves all paths
+    /// unchanged. It is true without entries.
     pub fn paths_in_storage(&self) -> bool
         ensures { IsTrue result ↔ PathsInStorage self.now }
     {
         are_placed(&self.parts.entries, self.parts.path_backing.len())
     }
 
-    /// Whether no path of the entries that aren't marked `REMOVE` has a NUL, so that version 4 can hold them.
+    /// Returns whether no path contains a NUL, except those of entries that are marked `REMOVE`. Version 4 can store
+    /// such entries.
     pub fn paths_without_nul(&self) -> bool
         ensures { IsTrue result ↔ LackNul (contents self.now).records }
     {
@@ -128,7 +129,7 @@ impl State {
     }
 }
 
-/// The storage of the state's paths.
+/// Borrows the storage of the state's paths.
 impl PathBacking for State {
     ghost use Rattle.index_state.specs.State.{storage_of};
 

@@ -1,33 +1,42 @@
-//! Writing an index as the bytes of a file.
+//! Writes an index as the bytes of a file.
 
 ghost use Rattle.std.specs.Prelude.{◌≡◌, ◌↔◌, IfOk, OnOk};
 ghost use Rattle.index_parts.specs.Taking.{Hashes};
-ghost use Rattle.index_format.specs.Image.{body, image_version};
-ghost use Rattle.index_format.specs.Storable.{IsWritable};
-ghost use Rattle.index_format.specs.Writing.{RefusedWith, Writes};
+ghost use Rattle.index_model.specs.Image.{body, image_version};
+ghost use Rattle.index_model.specs.Storable.{IsWritable};
+ghost use Rattle.index_model.specs.Writing.{RefusedWith, Writes};
 ghost use Rattle.index_state.specs.State.{contents};
 
 use crate::State;
-use index_entries::Version;
-use index_format::write::{Error, Options};
+use entry_list::Version;
+use index_encode::write_to;
+use index_model::write::{Error, Options};
 use index_parts::hash::io::Out;
-use index_writing::write_to;
 
 impl State {
-    /// Writes the index as the bytes of a file, but for the trailer, and gives the version that they have: 4 where it
-    /// is chosen; else 3 where an entry has `EXTENDED`, even one that is left out, or 2 (gitformat-index, "The Git
-    /// index file has the following format").
+    /// Writes the index as the bytes of a file, except the trailer, and returns the version that was written. The
+    /// version is 4 if it is chosen. Otherwise it is 3 if an entry has `EXTENDED`, even one that is omitted, or else 2
+    /// (gitformat-index, "The Git index file has the following format").
     ///
-    /// Entries marked `REMOVE` are left out, and the header doesn't count them. The others have their place and their
-    /// mode's 32 bits as they are, the bits of their flags that a file keeps, and their id's own bytes, of whichever
-    /// kind. Behind them come the cached tree, where there is one and the options ask for it; the mark of a sparse
-    /// index; and, behind one of these, an end marker, where there are entries, even ones that are left out, and the
-    /// options ask for it. By `Extensions::Kept` all extensions that still fit come there, and an end marker where there
-    /// was one; of the cached tree, the untracked cache and a monitor's answer none does beside an entry that is left out.
+    /// Entries marked `REMOVE` are omitted, and the header doesn't count them. The others keep their order and the 32
+    /// bits of their mode. Of their flags the bits are written that a file stores. Their ids are written with their own
+    /// bytes, whatever their hash algorithm.
     ///
-    /// [`Error::TooManyEntries`], then [`Error::NulInPath`], then [`Error::TooLarge`], come before any byte and leave
-    /// the writer as it was. [`Error::Io`] comes only where the writer failed, which then took a prefix of the bytes.
-    /// No memory is taken.
+    /// The extensions follow:
+    ///
+    /// - the cache tree, if there is one and the options ask for it,
+    /// - the mark of a sparse index,
+    /// - after one of these an end marker, if there are entries, even omitted ones, and the options ask for it.
+    ///
+    /// With `Extensions::Kept` all extensions that still match are written, and an end marker if there was one. If an
+    /// entry is omitted, the cache tree, the untracked cache and a monitor's answer are not written. No memory is
+    /// allocated.
+    ///
+    /// # Errors
+    ///
+    /// - [`Error::TooManyEntries`], then [`Error::NulInPath`], then [`Error::TooLarge`]: returned before any byte is
+    ///   written.
+    /// - [`Error::Io`]: the writer failed, after it took a prefix of the bytes.
     pub fn write_to<W: Out>(&self, out: &mut W, options: Options) -> Result<Version, Error>
         ensures version { IfOk result
             (λ version. version ≡ image_version (contents self.now) options) }

@@ -3,28 +3,28 @@ use Rattle.std.proofs.Common.{◌≡◌, ℕ, Bool, List, Option, refl, subst}
 use Rattle.std.proofs.KnownBytes.{Keeps-refl}
 use Rattle.gix_index.specs.Disk.World.{World}
 use Rattle.gix_index.specs.Kind.{Kind}
-use Rattle.index_input.specs.declared.error.Error.{Error}
-use Rattle.index_input.specs.declared.place.Surroundings.{Surroundings}
-use Rattle.index_words.specs.Commands as words
-use Rattle.index_words.specs.Meaning.{Meaning, Runs}
-use Rattle.index_tool.specs.Command.{IsCommand, IsFound, given_of, input_of, on_file}
+use Rattle.tool_defaults.specs.declared.error.Error.{Error}
+use Rattle.tool_defaults.specs.declared.place.Surroundings.{Surroundings}
+use Rattle.tool_args.specs.Commands as words
+use Rattle.tool_args.specs.Meaning.{Meaning, Runs}
+use Rattle.index_tool.specs.Command.{IsCommand, IsFileAndKind, given_of, input_of, on_file}
 use Rattle.index_tool.specs.Ending.{IsDone, IsRefused, IsUnfound, ran, refused, unfound}
 use Rattle.index_tool.specs.Outcome.{GivesUp, Spares, Succeeds}
 
 module _ (around : Surroundings) (before behind : World) (old new : Option (List ℕ)) (meaning : Meaning)
     (meant : words.CommandValue) (is : meaning ≡ Runs meant) (given : Option Kind) (input : Option words.Place)
     (is_given : given ≡ given_of meant) (is_input : input ≡ input_of meant) where
-  module _ (kind : Kind) (path : List ℕ) (found : IsFound before around given input kind path) where
+  module _ (kind : Kind) (path : List ℕ) (found : IsFileAndKind before around given input kind path) where
     command_found : IsCommand before around meant (on_file meant kind path)
     command_found = record {
       kind = kind;
       path = path;
-      found = subst (λ i. IsFound before around (given_of meant) i kind path) is_input
-          (subst (λ g. IsFound before around g input kind path) is_given found);
+      found = subst (λ i. IsFileAndKind before around (given_of meant) i kind path) is_input
+          (subst (λ g. IsFileAndKind before around g input kind path) is_given found);
       is = refl;
     }
 
-    -- where the place is as before, what was done there is what the words mean
+    -- If the folder is as before, what was done there is what the arguments mean.
     pub done_there : (alone guards : Bool) (a g : Bool) (there : World) → a ≡ alone → g ≡ guards → there ≡ before
         → Succeeds a g there behind (on_file meant kind path) old new
         → IsDone around alone guards before behind old new meaning

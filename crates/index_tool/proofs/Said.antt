@@ -1,13 +1,13 @@
--- What is said in place of a command: an answer says what the words mean.
+-- What is printed instead of running a command: an answer has what the arguments mean.
 use Rattle.std.proofs.Common.{◌≡◌, ◌∙◌, ◌⊎◌, ℕ, Bool, true, false, List, Option, ap, inl, inr, refl, subst, sym, true≢false}
 use Rattle.std.specs.Io.KnownBytes.{Keeps}
 use Rattle.gix_index.specs.Disk.World.{World}
 use Rattle.clap.specs.Values.{kind_of}
-use Rattle.index_input.specs.declared.place.Surroundings.{Surroundings}
-use Rattle.index_words.specs.Answers.{Answers, is_asked_for}
-use Rattle.index_words.specs.Meaning.{Meaning, Runs, Says}
-use Rattle.index_words.specs.declared.answer.Answer.{Answer}
-use Rattle.index_words.specs.declared.answer.Answer.TheVariants as answers
+use Rattle.tool_defaults.specs.declared.place.Surroundings.{Surroundings}
+use Rattle.tool_args.specs.Answers.{Answers, is_asked_for}
+use Rattle.tool_args.specs.Meaning.{Meaning, Runs, Says}
+use Rattle.tool_args.specs.declared.answer.Answer.{Answer}
+use Rattle.tool_args.specs.declared.answer.Answer.TheVariants as answers
 use Rattle.index_tool.specs.Ending.{AreAsked, AreWrong, IsDone, IsRefused, IsWrong, told, unread, untold}
 
 -- one that was asked for is what the words ask for
@@ -34,7 +34,7 @@ module _ (around : Surroundings) (alone : Bool) (before behind : World) (old new
       (λ kinds are. untold kinds are stays)
   said_refused works keeps (inr memory) = unread meaning (keeps (ap is_asked_for memory)) stays
 
--- one of wrong words says that they are wrong
+-- the answer to a usage error has one of the arguments' usage errors
 pub said_wrong : (meaning : Meaning) (answer : Answer) → Answers meaning answer → IsWrong answer → AreWrong meaning
 said_wrong (Says kinds) (answers.WrongWords e) h wrong = (kind_of e, h.2, h.0, h.1)
 said_wrong (Says kinds) (answers.Help e) h wrong = absurd wrong

@@ -1,16 +1,16 @@
--- What the program did by the words that it was called with, over the files of the system (the program's own).
+-- What the program did for the arguments with which it was called, over the files of the system (the program's own).
 use Rattle.std.specs.Prelude.{◌≡◌, ◌≢◌, ◌≤◌, ◌↔◌, ℕ, false, List, Option, Result, IfErr, IfOk, OnErr, String}
 use Rattle.std.specs.Global.{Global, Vec}
 use Rattle.std.specs.Io.KnownBytes.{Keeps}
 use Rattle.std.specs.declared.io.ErrorKind.{ErrorKind}
 use Rattle.std.specs.declared.io.ErrorKind.TheVariants.{OutOfMemory}
 use Rattle.gix_index.specs.Disk.World.{Unknown, World}
-use Rattle.index_input.specs.declared.place.Surroundings.{Surroundings}
+use Rattle.tool_defaults.specs.declared.place.Surroundings.{Surroundings}
 use Rattle.index_tool.specs.Calls.{meaning_of}
 use Rattle.index_tool.specs.Ending.{AreWrong, IsDone, IsRefused}
 use Rattle.index_tool.specs.declared.command.TheConstants.{DONE, REFUSED, WRONG_WORDS}
 
--- some place around, and what the output had before and has behind
+-- some environment, and what the output had before and has after
 pub record Somewhere (Holds : Surroundings → Option (List ℕ) → Option (List ℕ) → Type 0) : Type 0 where
   pub around : Surroundings
   pub old : Option (List ℕ)
@@ -21,7 +21,7 @@ pub record Somewhere (Holds : Surroundings → Option (List ℕ) → Option (Lis
 abbrev pub unknown : World
 unknown = λ path. Unknown
 
--- what these words mean was done on them, or refused, by the status; or the words are wrong
+-- What these arguments mean was done on the files of the system, or failed, by the status; or it is a usage error.
 pub record EndsWords (texts : List (String Global)) (code : ℕ) : Type 0 where
   pub status : code ≤ WRONG_WORDS
   pub wrong_words : code ≡ WRONG_WORDS → AreWrong (meaning_of texts)
@@ -30,8 +30,8 @@ pub record EndsWords (texts : List (String Global)) (code : ℕ) : Type 0 where
   pub refused : code ≡ REFUSED → Somewhere
       (λ around old new. IsRefused around false false unknown unknown old new (meaning_of texts))
 
--- The words that the program was called with were run so. Where they can't be had, the status says whether for want of
--- memory or as one isn't UTF-8, and nothing goes to the output.
+-- The arguments with which the program was called were run. If they can't be read, the status is that of an allocation
+-- failure or of an argument that isn't UTF-8. Nothing is then written to the output.
 pub record EndsCall (call : Result (Vec (String Global)) ErrorKind) (old new : Option (List ℕ)) (code : ℕ) : Type 0 where
   pub status : code ≤ WRONG_WORDS
   pub run : IfOk call (λ words. EndsWords words.items code)

@@ -6,70 +6,74 @@ use Rattle.gix_index.specs.Disk.{disk_at}
 use Rattle.gix_index.specs.DecodeError.{Error}
 use Rattle.gix_index.specs.InPlace.Locks.{Restores}
 use Rattle.gix_index.specs.Disk.World.{World}
-use Rattle.index_failures.specs.declared.failure.Failure.{Failure}
-use Rattle.index_failures.specs.Telling.{AnyText, NoText, Tells, TellsPart}
-use Rattle.index_commands.specs.Trees.{AreTrees, FailsToRetree, Retrees}
-use Rattle.index_commands.specs.Checking.{IsPassed}
-use Rattle.index_commands.specs.declared.check.Checks.{Checks}
-use Rattle.index_commands.specs.Listing.{IsListing}
-use Rattle.index_commands.specs.Rewriting.{FailsToRewrite, Rewrites}
-use Rattle.index_commands.specs.Updating.{FailsToStoreUpdate, Updates}
-use Rattle.index_telling.specs.declared.salvage.Report.{Report}
-use Rattle.index_telling.specs.Mapping.{IsDamagedMap, IsDamagedPicture, IsMap, IsPicture}
-use Rattle.index_telling.specs.Salvaging.{FailsToSalvage, Salvages}
-use Rattle.index_telling.specs.Showing.{IsJson, IsShown}
-use Rattle.index_words.specs.declared.command.Reading.{Reading}
-use Rattle.index_words.specs.declared.command.Reading.TheVariants as readings
-use Rattle.index_words.specs.declared.command.Writing.{Writing}
-use Rattle.index_words.specs.declared.command.Writing.TheVariants as writings
-use Rattle.index_commands.specs.declared.rewrite.Form.{Form}
-use Rattle.index_commands.specs.declared.rewrite.Form.TheVariants as forms
-use Rattle.index_commands.specs.declared.rewrite_trees.Counts.{Counts}
-use Rattle.index_commands.specs.declared.rewrite_trees.Counts.TheVariants as counting
-use Rattle.index_tool.specs.Command.{CommandValue, Reads, Writes}
+use Rattle.tool_errors.specs.declared.failure.Failure.{Failure}
+use Rattle.tool_errors.specs.Outputs.{AnyText, NoText, TextOutput, PartialOutput}
+use Rattle.tool_edit.specs.Trees.{AreTrees, FailsToRetree, Retrees}
+use Rattle.tool_edit.specs.Checking.{IsPassed}
+use Rattle.tool_edit.specs.declared.check.Checks.{Checks}
+use Rattle.tool_edit.specs.Listing.{IsListing}
+use Rattle.tool_edit.specs.Rewriting.{FailsToRewrite, Rewrites}
+use Rattle.tool_edit.specs.Updating.{FailsToStoreUpdate, Updates}
+use Rattle.tool_inspect.specs.declared.salvage.Report.{Report}
+use Rattle.tool_inspect.specs.Mapping.{IsDamagedMap, IsDamagedPicture, IsMap, IsPicture}
+use Rattle.tool_inspect.specs.Salvaging.{FailsToSalvage, Salvages}
+use Rattle.tool_inspect.specs.Showing.{IsShown}
+use Rattle.tool_inspect.specs.declared.show.ShowFormat.TheVariants as formats
+use Rattle.tool_args.specs.declared.command.Reading.{Reading}
+use Rattle.tool_args.specs.declared.command.Reading.TheVariants as readings
+use Rattle.tool_args.specs.declared.command.Writing.{Writing}
+use Rattle.tool_args.specs.declared.command.Writing.TheVariants as writings
+use Rattle.tool_edit.specs.declared.rewrite.Form.{Form}
+use Rattle.tool_edit.specs.declared.rewrite.Form.TheVariants as forms
+use Rattle.tool_edit.specs.declared.rewrite_trees.Counts.{Counts}
+use Rattle.tool_edit.specs.declared.rewrite_trees.Counts.TheVariants as counting
+use Rattle.index_tool.specs.Command.{ResolvedCommand, Reads, Writes}
 
--- what `check` looks at, and what `check-trees` does: with `--strict` at each entry too
+-- the checks of `check` and of `check-trees`; with `--strict` each entry is checked too
 abbrev pub plain_checks : Bool → Checks
 plain_checks strict = record { trees = false; strict = strict }
 
 abbrev pub tree_checks : Bool → Checks
 tree_checks strict = record { trees = true; strict = strict }
 
--- what is told of a file: the listing of an index, the line of one that passed all checks, the map or the picture of a
--- file without a fault, the lines or the JSON of what a file holds, or the lines of the trees that an index makes
-abbrev pub IsTold : Reading → World → Kind → List ℕ → List ℕ → Type 0
-IsTold (readings.List lines) world kind file text = IsListing lines (disk_at world file) kind text
-IsTold (readings.Check strict) world kind file text = IsPassed (plain_checks strict) (disk_at world file) kind text
-IsTold (readings.CheckTrees strict) world kind file text = IsPassed (tree_checks strict) (disk_at world file) kind text
-IsTold (readings.Map lines) world kind file text = IsMap lines None (world file) kind text
-IsTold readings.MapSvg world kind file text = IsPicture None (world file) kind text
-IsTold readings.Show world kind file text = IsShown (world file) kind text
-IsTold readings.ShowJson world kind file text = IsJson (world file) kind text
-IsTold (readings.Trees lines) world kind file text = AreTrees lines (disk_at world file) kind text
+-- What is printed of a file. This is the listing of an index, or the line of one that passed all checks. Or it is the
+-- map or the picture of a file without an error. Or it is the lines or the JSON of what a file holds, or the lines of
+-- the trees that an index makes.
+abbrev pub IsOutput : Reading → World → Kind → List ℕ → List ℕ → Type 0
+IsOutput (readings.List lines) world kind file text = IsListing lines (disk_at world file) kind text
+IsOutput (readings.Check strict) world kind file text = IsPassed (plain_checks strict) (disk_at world file) kind text
+IsOutput (readings.CheckTrees strict) world kind file text = IsPassed (tree_checks strict) (disk_at world file) kind
+    text
+IsOutput (readings.Map lines) world kind file text = IsMap lines None (world file) kind text
+IsOutput readings.MapSvg world kind file text = IsPicture None (world file) kind text
+IsOutput readings.Show world kind file text = IsShown formats.Lines (world file) kind text
+IsOutput readings.ShowJson world kind file text = IsShown formats.Json (world file) kind text
+IsOutput (readings.Trees lines) world kind file text = AreTrees lines (disk_at world file) kind text
 
--- what is told of one with this first fault, which stands there: its map or its picture, and else nothing
-abbrev pub IsToldOfDamaged : Reading → World → Kind → List ℕ → ℕ → Error → List ℕ → Type 0
-IsToldOfDamaged (readings.Map lines) world kind file offset e text = IsDamagedMap lines (world file) kind offset e text
-IsToldOfDamaged readings.MapSvg world kind file offset e text = IsDamagedPicture (world file) kind offset e text
-IsToldOfDamaged what world kind file offset e text = NoText offset e text
+-- what is printed of a file with this first error at this offset: its map or its picture, and otherwise nothing
+abbrev pub IsDamagedOutput : Reading → World → Kind → List ℕ → ℕ → Error → List ℕ → Type 0
+IsDamagedOutput (readings.Map lines) world kind file offset e text = IsDamagedMap lines (world file) kind offset e text
+IsDamagedOutput readings.MapSvg world kind file offset e text = IsDamagedPicture (world file) kind offset e text
+IsDamagedOutput what world kind file offset e text = NoText offset e text
 
--- by which options an index is written again: the default ones, or where it is kept as it was read all that fits
+-- the options with which an index is written again: the default ones, or with `keep` all extensions that fit
 abbrev pub form_of : Bool → Form
 form_of true = forms.AsRead
 form_of false = forms.Smallest
 
--- the same in version 4
+-- the options with which an index is written again in version 4: the default ones, or with `keep` all extensions that
+-- fit
 abbrev pub form4_of : Bool → Form
 form4_of true = forms.AsReadV4
 form4_of false = forms.V4
 
--- which directories of a cached tree that is made get a count: each, where trees may be missing
+-- which directories of a rebuilt cache tree get a count: each, if trees may be missing
 abbrev pub counts_of : Bool → Counts
 counts_of true = counting.All
 counts_of false = counting.Known
 
--- An index was written to a path: the one in a file, that one with a cached tree made anew or with the changes that the
--- standard input says, or what is saved of a file, of which alone there is a report.
+-- An index was written to a path. It is the one in a file, maybe with a rebuilt cache tree or with the changes on the
+-- standard input. Or it is what is saved of a file, which alone has a report.
 abbrev pub StoresIndex : Writing → Bool → Bool → Kind → World → World → List ℕ → List ℕ → Option Report → Type 0
 StoresIndex (writings.Rewrite keep) alone guards kind before behind file to report =
     Rewrites alone guards (form_of keep) kind before behind file to × (report ≡ None)
@@ -95,32 +99,32 @@ FailsToStore (writings.Update nul) works guards kind before file to failure =
 FailsToStore (writings.Salvage all) works guards kind before file to failure =
     FailsToSalvage works guards kind before file to failure
 
--- what a command did that has this report, or none: known bytes of the output grew by all that it tells of the files
--- before; or they stayed, and an index was written
-abbrev pub Does : Option Report → Bool → Bool → World → World → CommandValue → Option (List ℕ) → Option (List ℕ)
+-- What a command did that has this report, or none. Either known bytes of the output grew by all that it prints of the
+-- files before; or they stayed, and an index was written.
+abbrev pub Does : Option Report → Bool → Bool → World → World → ResolvedCommand → Option (List ℕ) → Option (List ℕ)
     → Type 0
 Does report alone guards before behind (Reads what kind file) old new =
-    Tells (IsTold what before kind file) old new × (behind ≡ before) × (report ≡ None)
+    TextOutput (IsOutput what before kind file) old new × (behind ≡ before) × (report ≡ None)
 Does report alone guards before behind (Writes what kind file to) old new =
     StoresIndex what alone guards kind before behind file to report × Keeps old new
 
 -- what a command that succeeded did
-abbrev pub Succeeds : Bool → Bool → World → World → CommandValue → Option (List ℕ) → Option (List ℕ) → Type 0
+abbrev pub Succeeds : Bool → Bool → World → World → ResolvedCommand → Option (List ℕ) → Option (List ℕ) → Type 0
 Succeeds alone guards before behind command old new =
     (report : Option Report) × Does report alone guards before behind command old new
 
--- what a command that was refused did to them: nothing, or they grew by a prefix of that, or by all that is told of a
--- damaged file
-pub data GivesUp (world : World) (command : CommandValue) (old new : Option (List ℕ)) : Type 0 where
+-- What a command that failed did to the known bytes of the output. Nothing; or they grew by a prefix of its text, or by
+-- all that is printed of a damaged file.
+pub data GivesUp (world : World) (command : ResolvedCommand) (old new : Option (List ℕ)) : Type 0 where
   nothing : Keeps old new → GivesUp world command old new
   some_of : (what : Reading) (kind : Kind) (file : List ℕ) → command ≡ Reads what kind file
-      → TellsPart (AnyText (IsTold what world kind file) (IsToldOfDamaged what world kind file)) old new
+      → PartialOutput (AnyText (IsOutput what world kind file) (IsDamagedOutput what world kind file)) old new
       → GivesUp world command old new
   damaged : (what : Reading) (kind : Kind) (file : List ℕ) (offset : ℕ) (e : Error) → command ≡ Reads what kind file
-      → Tells (IsToldOfDamaged what world kind file offset e) old new → GivesUp world command old new
+      → TextOutput (IsDamagedOutput what world kind file offset e) old new → GivesUp world command old new
 
--- what a command that was refused did to the files: nothing; or where their place doesn't work, the lock of what it
--- was to write may be there
-abbrev pub Spares : Bool → Bool → World → World → CommandValue → Type 0
+-- What a command that failed did to the files: nothing; or if their folder doesn't work, the lock of what it was to
+-- write may be there.
+abbrev pub Spares : Bool → Bool → World → World → ResolvedCommand → Type 0
 Spares alone works before behind (Reads what kind file) = behind ≡ before
 Spares alone works before behind (Writes what kind file to) = alone ≡ true → Restores works before behind to

@@ -1,46 +1,44 @@
-//! The commands, from words to a status.
+//! The commands, from arguments to a status.
 
 ghost use Rattle.std.specs.Prelude.{◌≡◌, ◌≤◌, false, true};
 ghost use Rattle.std.specs.Io.KnownBytes.{Keeps};
 ghost use Rattle.std.specs.Option.{option_map};
-ghost use Rattle.index_words.specs.Answers.{is_asked_for};
-ghost use Rattle.index_words.specs.Commands.{command_value, place_of};
-ghost use Rattle.index_tool.specs.Calls.{Acts, EndsByStatus, EndsRun, FindsIndex, FindsPath, HoldsInput, IsRefusable};
-ghost use Rattle.index_tool.specs.Calls.{KeepsFaults, TellsOf, WritesOf, reports_by, reports_in};
+ghost use Rattle.tool_args.specs.Answers.{is_asked_for};
+ghost use Rattle.tool_args.specs.Commands.{command_value, place_of};
+ghost use Rattle.index_tool.specs.Calls.{Acts, EndsByStatus, EndsRun, FindsFileAndKind, FindsFilePath, HoldsInput};
+ghost use Rattle.index_tool.specs.Calls.{IsRefusable};
+ghost use Rattle.index_tool.specs.Calls.{KeepsFaults, InspectOutput, WritesOf, reports_by, reports_in};
 ghost use Rattle.index_tool.specs.Command.{given_of, input_of};
 ghost use Rattle.index_tool.specs.Ending.{IsWrong};
 ghost use Rattle.index_tool.specs.Outcome.{form4_of, form_of, plain_checks, tree_checks};
 
 use crate::line::{put_line, put_text};
 use crate::terminal::{Console, STANDARD_INPUT};
-use gix_index::file::PathError;
 use gix_index::file::folder::{Folder, Standing};
 use gix_index::hash::Kind;
 use gix_index::hash::io::Out;
-use index_commands::check::{Checks, check};
-use index_commands::list::list;
-use index_commands::rewrite::{Form, rewrite};
-use index_commands::rewrite_trees::{Counts, rewrite_trees};
-use index_commands::trees::trees;
-use index_commands::update::update;
-use index_failures::failure::Failure;
-use index_input::{Surroundings, index_path, kind_at};
-use index_telling::map::map;
-use index_telling::map_svg::map_svg;
-use index_telling::salvage::{Report, salvage};
-use index_telling::show::show;
-use index_telling::show_json::show_json;
-use index_words::{Answer, Command, Input, Reading, Writing, parse};
 use std::alloc::Global;
-use std::io::ErrorKind;
 use std::path::{Path, PathBuf};
 use std::{fmt, io};
+use tool_args::{Answer, Command, Input, Reading, Writing, parse};
+use tool_defaults::{Surroundings, index_path, kind_at};
+use tool_edit::check::{Checks, check};
+use tool_edit::list::list;
+use tool_edit::rewrite::{Form, rewrite};
+use tool_edit::rewrite_trees::{Counts, rewrite_trees};
+use tool_edit::trees::trees;
+use tool_edit::update::update;
+use tool_errors::failure::Failure;
+use tool_inspect::map::map;
+use tool_inspect::map_svg::map_svg;
+use tool_inspect::salvage::{Report, salvage};
+use tool_inspect::show::{ShowFormat, show};
 
 /// The status of a command that succeeded.
 pub const DONE: u8 = 0;
-/// The status of a command that was refused.
+/// The status of a command that failed.
 pub const REFUSED: u8 = 1;
-/// The status of words that are no command.
+/// The status of a usage error.
 pub const WRONG_WORDS: u8 = 2;
 
 /// The index that a command is about.
@@ -48,32 +46,29 @@ pub const WRONG_WORDS: u8 = 2;
 struct Found {
     /// The path of its file.
     path: String,
-    /// The kind of its ids.
+    /// The hash algorithm of its ids.
     kind: Kind,
 }
 
-/// Takes the standard input, which counts as the file [`STANDARD_INPUT`] from here on.
-fn hold<D: Console>(folder: &mut D, alloc: Global) -> Result<(), index_input::Error>
+/// Reads the standard input, which is the file [`STANDARD_INPUT`] from here on.
+fn hold<D: Console>(folder: &mut D, alloc: Global) -> Result<(), tool_defaults::Error>
     ensures { HoldsInput D.Folder folder.old folder.new result }
 {
     if let Err(error) = folder.hold_input(alloc) {
-        if error.kind() == ErrorKind::OutOfMemory {
-            return Err(index_input::Error::Memory);
-        }
         let path = PathBuf::from_str(alloc, STANDARD_INPUT)?;
-        return Err(index_input::Error::Io(PathError { path, error }));
+        return Err(tool_defaults::Error::of(path, error));
     }
     Ok(())
 }
 
-/// The path of the file that a word names, or that of the work tree's index where no word does.
+/// Returns the path of the file that an argument names, or that of the work tree's index if none is given.
 fn path_of<D: Console>(
     folder: &mut D,
     alloc: Global,
     around: &Surroundings,
     input: Option<Input<'_>>,
-) -> Result<String, index_input::Error>
-    ensures { FindsPath D.Folder folder.old folder.new around.now input.entry result }
+) -> Result<String, tool_defaults::Error>
+    ensures { FindsFilePath D.Folder folder.old folder.new around.now input.entry result }
 {
     match input {
         Some(Input::File(path)) => Ok(String::from_str(alloc, path)?),
@@ -89,15 +84,15 @@ fn path_of<D: Console>(
     }
 }
 
-/// The index that the words name, with what they leave out.
+/// Returns the index that the arguments name, and finds what they leave out.
 fn find<D: Console>(
     folder: &mut D,
     alloc: Global,
     around: &Surroundings,
     given: Option<Kind>,
     input: Option<Input<'_>>,
-) -> Result<Found, index_input::Error>
-    ensures { FindsIndex D.Folder folder.old folder.new around.now given input.entry result }
+) -> Result<Found, tool_defaults::Error>
+    ensures { FindsFileAndKind D.Folder folder.old folder.new around.now given input.entry result }
 {
     let path = path_of(folder, alloc, around, input)?;
     let kind = match given {
@@ -107,7 +102,7 @@ fn find<D: Console>(
     Ok(Found { path, kind })
 }
 
-/// What `check` looks at.
+/// Returns what `check` checks.
 fn plain_checks(strict: bool) -> Checks
     ensures { result ≡ plain_checks strict }
 {
@@ -117,7 +112,7 @@ fn plain_checks(strict: bool) -> Checks
     }
 }
 
-/// What `check-trees` looks at.
+/// Returns what `check-trees` checks.
 fn tree_checks(strict: bool) -> Checks
     ensures { result ≡ tree_checks strict }
 {
@@ -127,7 +122,7 @@ fn tree_checks(strict: bool) -> Checks
     }
 }
 
-/// Tells what is asked of the index in a file: Ok where all of it went to `out`.
+/// Prints what is requested of the index in a file. On success all of it was written to `out`.
 fn tell<'a, D: Folder, W: Out>(
     folder: &D,
     alloc: Global,
@@ -136,7 +131,7 @@ fn tell<'a, D: Folder, W: Out>(
     path: &'a str,
     out: &mut W,
 ) -> Result<(), Failure<'a>>
-    ensures { TellsOf what D.Folder folder.now kind path.now W.Out out.old out.new result }
+    ensures { InspectOutput what D.Folder folder.now kind path.now W.Out out.old out.new result }
 {
     match what {
         Reading::List(lines) => list(folder, alloc, lines, kind, path, out),
@@ -146,27 +141,28 @@ fn tell<'a, D: Folder, W: Out>(
         }
         Reading::Map(lines) => map(folder, alloc, lines, kind, path, out),
         Reading::MapSvg => map_svg(folder, alloc, kind, path, out),
-        Reading::Show => show(folder, alloc, kind, path, out),
-        Reading::ShowJson => show_json(folder, alloc, kind, path, out),
+        Reading::Show => show(folder, alloc, ShowFormat::Lines, kind, path, out),
+        Reading::ShowJson => show(folder, alloc, ShowFormat::Json, kind, path, out),
         Reading::Trees(lines) => trees(folder, alloc, lines, kind, path, out),
     }
 }
 
-/// By which options an index is written again: with `keep` all that fits stays.
+/// Returns the options with which an index is written again. With `keep` all extensions that fit are preserved.
 fn form_of(keep: bool) -> Form
     ensures { result ≡ form_of keep }
 {
     if keep { Form::AsRead } else { Form::Smallest }
 }
 
-/// The same in version 4.
+/// Returns the options with which an index is written again in version 4. With `keep` all extensions that fit are
+/// preserved.
 fn form4_of(keep: bool) -> Form
     ensures { result ≡ form4_of keep }
 {
     if keep { Form::AsReadV4 } else { Form::V4 }
 }
 
-/// Writes what is asked of the index in a file to another path. A report comes of what was saved alone.
+/// Writes what is requested of the index in a file to another path. Only `salvage` returns a report.
 fn write<'a, D: Folder>(
     folder: &mut D,
     alloc: Global,
@@ -194,13 +190,13 @@ fn write<'a, D: Folder>(
     Ok(None)
 }
 
-/// Prints what the words ask for: Ok where all of it went to `out`.
+/// Prints what the arguments request. On success all of it was written to `out`.
 fn print<O: Out>(alloc: Global, answer: &Answer, out: &mut O) -> io::Result<()> {
     let text = format!(in alloc; "{answer}")?;
     out.put(text.as_bytes())
 }
 
-/// Prints what is said in place of a command, and gives its status.
+/// Prints an answer instead of running a command, and returns its status.
 fn say<O: Out, E: io::Write>(alloc: Global, answer: &Answer, out: &mut O, faults: &mut E) -> u8
     ensures status { result ≤ WRONG_WORDS }
     ensures asked { result ≡ DONE → is_asked_for answer.now ≡ true }
@@ -223,11 +219,11 @@ fn say<O: Out, E: io::Write>(alloc: Global, answer: &Answer, out: &mut O, faults
     }
 }
 
-/// A failure, and of an index that has ids of another kind than the words say, that kind.
+/// A failure. If the index has ids with another hash algorithm than the arguments name, also that algorithm.
 #[derive(Clone, Copy)]
-struct Told<'a>(&'a Failure<'a>, Option<Kind>);
+struct Reported<'a>(&'a Failure<'a>, Option<Kind>);
 
-impl fmt::Display for Told<'_> {
+impl fmt::Display for Reported<'_> {
     fn fmt<W: fmt::Write>(&self, f: &mut fmt::Formatter<W>) -> fmt::Result {
         write!(f, "{}", self.0)?;
         match self.1 {
@@ -238,12 +234,13 @@ impl fmt::Display for Told<'_> {
     }
 }
 
-/// Whether a regular file is at a path. (A pipe would be waited for, and gives its bytes once.)
+/// Returns whether a regular file is at a path. (Reading a pipe would block, and a pipe gives its bytes only once.)
 fn is_regular<D: Folder>(folder: &D, path: &str) -> bool {
     matches!(folder.look(Path::new(path)), Ok(Standing::File))
 }
 
-/// The kind that the index in a regular file has by itself, where it can't be read as one of another kind.
+/// Returns the hash algorithm of the index in a regular file, if the index can't be read with the given one and has
+/// another.
 fn other_kind<D: Folder>(
     folder: &D,
     alloc: Global,
@@ -260,7 +257,7 @@ fn other_kind<D: Folder>(
     }
 }
 
-/// Runs a command on the index that it is about: Ok where it did all that it does, with what else is to be told.
+/// Runs a command on its index. `Ok` if the command completed, with the report if there is one.
 fn run_command<'a, D: Folder, O: Out>(
     folder: &mut D,
     alloc: Global,
@@ -280,7 +277,7 @@ fn run_command<'a, D: Folder, O: Out>(
     }
 }
 
-/// The same, with lines on `faults`, and the status.
+/// Runs a command on its index, writes lines to `faults`, and returns the status.
 fn run_on<D: Folder, O: Out, E: io::Write>(
     folder: &mut D,
     alloc: Global,
@@ -302,14 +299,14 @@ fn run_on<D: Folder, O: Out, E: io::Write>(
         }
         Err(failure) => {
             let other = other_kind(folder, alloc, index, &failure);
-            put_line(faults, &Told(&failure, other));
+            put_line(faults, &Reported(&failure, other));
             REFUSED
         }
     }
 }
 
-/// The kind and the place of the index that a command is about, as far as the words name them.
-fn named<'a>(command: &Command<'a>) -> (Option<Kind>, Option<Input<'a>>)
+/// Returns the hash algorithm and the location of a command's index, as far as the arguments name them.
+fn kind_and_place<'a>(command: &Command<'a>) -> (Option<Kind>, Option<Input<'a>>)
     ensures kind { result.0 ≡ given_of (command_value command.now) }
     ensures input { option_map place_of result.1 ≡ input_of (command_value command.now) }
 {
@@ -319,34 +316,57 @@ fn named<'a>(command: &Command<'a>) -> (Option<Kind>, Option<Input<'a>>)
     }
 }
 
-/// Runs the command that these words are by [`parse`], and gives the status that the program ends with.
+/// Runs the command that these arguments are by [`parse`], and returns the status with which the program ends.
 ///
-/// The index that it is about is FILE: the file at that path, or the standard input, which is held first, so that it
-/// counts as the file [`STANDARD_INPUT`]; where `--auto` lets the word be left out, the one that [`index_path`] finds.
-/// Its kind is KIND, or where that is left out what [`kind_at`] tells of that file. `list` writes a line to `out` for
-/// each entry, of which some are read from the shared index that FILE links to. `check` writes `ok` and a newline where
-/// the file's digest fits as it is read, the entries are in order and the cached tree holds together; `check-trees`
-/// does so where that tree tells what they give, too. With `--strict` either does so where git works with each entry, and
-/// none lies where another is a file or a whole directory. `trees` writes a line to `out` for each directory of the trees
-/// that the entries make. Of FILE by itself, without its shared index, `map` writes a line to `out` for each part, up
-/// to the first fault, where it has one, `map-svg` a picture of these parts, `show` lines of what it holds, and
-/// `show-json` the same as JSON. `rewrite` writes the index to the path OUT, and nothing to `out`: OUT is locked, as
-/// git locks an index, before FILE is opened, and gets the time of FILE. It is written by the default options, and with
-/// `--keep` in version 4 where FILE has it, and with all extensions that fit. `rewrite4` does so in version 4, and
-/// `rewrite-trees` with a cached tree made anew, in which a directory has a count and an id where that of FILE has the
-/// same; with `--missing-ok` each has them, also those of trees that no object store has yet. `update` holds the
-/// standard input, and writes to FILE, under its lock, what the changes make of it that are said there; where there is
-/// no file, an index is begun. `salvage` writes what can be saved of FILE there, with the entries of its shared index
-/// where that can be read, in version 4 where FILE has it: the entries before the first that is at fault, or with `--all`
-/// each that is well formed. It says on one line on `faults` how many entries were declared, read and kept, which is the
-/// first at fault, where the first fault of the file is, and whether the entries of a shared index are there or missing.
+/// # The index
 ///
-/// [`DONE`]: the command did all that, or `out` took the help or the version that the words ask for. [`REFUSED`]: the
-/// index isn't found, a file can't be read or written, or is no such index, or `out` failed; nothing goes to `out`
-/// before FILE was read whole and, but for `map` and `map-svg`, all checks have passed; the map and the picture of a
-/// damaged file go there whole. One line on `faults` names the file that it concerns. [`WRONG_WORDS`]: the words are no
-/// command, and one line on `faults` says why; no file is opened. A line goes to `faults` by one call, and is cut past
-/// 4096 bytes.
+/// - FILE is the file at that path, or the standard input. The standard input is read first and then is the file
+///   [`STANDARD_INPUT`]. If `--auto` lets FILE be left out, it is the one that [`index_path`] finds.
+/// - The hash algorithm is KIND. If KIND is left out, it is what [`kind_at`] returns for that file.
+///
+/// # Commands that print
+///
+/// - `list` writes a line to `out` for each entry, including those of the shared index that FILE links to.
+/// - `check` writes `ok` and a newline if the file's checksum matches, the entries are in order and the cache tree
+///   (TREE) is consistent.
+/// - `check-trees` does so if the cache tree also has what the entries give.
+/// - With `--strict` both also require that git accepts each entry, and that none is below a file or a sparse
+///   directory.
+/// - `trees` writes a line for each directory of the trees that the entries make.
+/// - `map` writes a line for each part of FILE, up to the first error. `map-svg` writes a picture of these parts.
+/// - `show` writes lines of what FILE holds, and `show-json` the same as JSON.
+///
+/// `map`, `map-svg`, `show` and `show-json` don't read the shared index.
+///
+/// # Commands that write
+///
+/// They write to the path OUT. OUT is locked before FILE is opened, as git locks an index. Nothing is written to `out`.
+///
+/// - `rewrite` writes the index with the default options, and OUT gets the time of FILE. With `--keep` it has all
+///   extensions that fit, and version 4 if FILE has it. `rewrite4` does so in version 4.
+/// - `rewrite-trees` writes the index with a rebuilt cache tree. A directory has a count and an id if that of FILE has
+///   the same. With `--missing-ok` each has them, including those of trees that no object store has yet.
+/// - `update` reads changes from the standard input, and replaces FILE with the changed index under FILE's lock. If
+///   there is no file, it begins with an empty index.
+/// - `salvage` writes what can be saved of FILE, in version 4 if FILE has it. It includes the entries of the shared
+///   index if that can be read. It preserves the entries before the first invalid one, or with `--all` each that is
+///   well formed.
+///
+/// `salvage` reports on one line on `faults` how many entries were declared, read and preserved, and which is the first
+/// invalid one. The line also has the offset of the file's first error, and whether the entries of a shared index are
+/// missing.
+///
+/// # Status
+///
+/// - [`DONE`]: the command completed, or `out` took the help or the version that the arguments request.
+/// - [`REFUSED`]: the index isn't found, a file can't be read or written, or is no such index, or `out` failed. One
+///   line on `faults` names the file that it concerns.
+/// - [`WRONG_WORDS`]: the arguments are no command, and one line on `faults` describes the usage error. No file is
+///   opened.
+///
+/// Nothing is written to `out` before FILE was read completely and all checks have passed. The exceptions are `map` and
+/// `map-svg`, which write all of the map or the picture of a damaged file. A line is written to `faults` by one call,
+/// and is cut after 4096 bytes.
 pub fn run_in<D: Console, O: Out, E: io::Write>(
     folder: &mut D,
     alloc: Global,
@@ -363,7 +383,7 @@ pub fn run_in<D: Console, O: Out, E: io::Write>(
         Ok(command) => command,
         Err(answer) => return say(alloc, &answer, out, faults),
     };
-    let (kind, input) = named(&command);
+    let (kind, input) = kind_and_place(&command);
     match find(folder, alloc, around, kind, input) {
         Ok(index) => run_on(folder, alloc, command, &index, out, faults),
         Err(fault) => {

@@ -1,20 +1,21 @@
-//! Lines for people: each has a bound, and goes out at once, so that lines of two programs don't mix.
+//! Lines for people. Each has a maximum length and is written by one call, so that lines of two programs don't mix.
 
 ghost use Rattle.std.specs.Prelude.{◌≤◌};
 
 use std::fmt::Write as _;
 use std::{fmt, io};
 
-/// So many bytes a line has at most, with the newline at its end.
+/// The maximum number of bytes of a line, including the newline at its end.
 const MAX_LEN: usize = 4096;
 
-/// What stands at the end of a line that is cut.
+/// The end of a line that is cut.
 const CUT: [u8; 3] = [b'.', b'.', b'\n'];
 
-/// So many bytes of the text fit, with room for what stands behind a cut.
+/// The number of bytes of text that fit, with room for the end of a cut line.
 const TEXT_LEN: usize = 4093;
 
-/// A line that is put together before it goes out. Its room is on the stack, so that want of memory is told too.
+/// A line that is composed before it is written. Its buffer is on the stack, so that an allocation failure can be
+/// reported too.
 #[derive(Drop)]
 pub struct Line {
     bytes: [u8; MAX_LEN],
@@ -24,7 +25,7 @@ pub struct Line {
 }
 
 impl Line {
-    /// A line without any text.
+    /// Returns a line without any text.
     fn new() -> Line {
         Line {
             bytes: [0; MAX_LEN],
@@ -33,8 +34,8 @@ impl Line {
         }
     }
 
-    /// Writes the line by one call, with `..` and a newline at its end where it was cut. That it can't be written is
-    /// told nowhere.
+    /// Writes the line by one call, with `..` and a newline at its end if it was cut. A failure of the write isn't
+    /// reported.
     fn put<E: io::Write>(mut self, out: &mut E) {
         let mut len = self.len;
         if self.is_cut {
@@ -45,7 +46,7 @@ impl Line {
     }
 }
 
-/// Text is taken as far as there is room. The error says that the rest was cut, which ends the formatting.
+/// Takes text as far as there is room. The error means that the rest was cut, which ends the formatting.
 impl fmt::Write for Line {
     fn write_str(&mut self, text: &str) -> fmt::Result {
         let mut count = text.len();
@@ -63,14 +64,14 @@ impl fmt::Write for Line {
     }
 }
 
-/// Writes a text that ends with a newline by one call, cut behind 4093 bytes.
+/// Writes a text that ends with a newline by one call, cut after 4093 bytes.
 pub fn put_text<E: io::Write, T: fmt::Display>(out: &mut E, text: &T) {
     let mut line = Line::new();
     let _ = write!(line, "{text}");
     line.put(out);
 }
 
-/// Writes the line of the program's name and a text, in the same way.
+/// Writes a line with the program's name and a text by one call, cut after 4093 bytes.
 pub fn put_line<E: io::Write, T: fmt::Display>(out: &mut E, text: &T) {
     let mut line = Line::new();
     let _ = writeln!(line, "index-tool: {text}");

@@ -17,34 +17,34 @@ use std::rt::Files;
 /// The path at which the standard input is a file.
 pub const STANDARD_INPUT: &str = "/dev/stdin";
 
-/// A place for files at which the standard input can be held, so that it can be opened more than once.
+/// A folder that can hold the standard input in memory, so that it can be opened more than once.
 pub trait Console: Folder {
-    /// Takes all bytes of the standard input: from here on they are what the file at [`STANDARD_INPUT`] gives, each time
-    /// that it is opened.
+    /// Reads all bytes of the standard input. From here on they are the bytes of the file at [`STANDARD_INPUT`], each
+    /// time that it is opened.
     fn hold_input(&mut self, alloc: Global) -> io::Result<()>
         ensures { LeavesFolder Self.Folder self.old self.new };
 }
 
-/// All bytes that the standard input gave, and when they were changed last.
+/// All bytes of the standard input, and its modification time.
 #[derive(Drop)]
 struct Held {
     bytes: Vec<u8>,
     modified: FileTime,
 }
 
-/// What was held of the standard input, open to be read.
+/// The standard input as it was held in memory, open for reading.
 #[derive(Drop)]
 pub struct HeldFile {
     held: Rc<Held>,
     at: usize,
 }
 
-/// An open file of the system, or the standard input as it was held.
+/// An open file of the system, or the standard input as it was held in memory.
 #[derive(Drop)]
 pub enum TerminalFile<F: Source> {
     /// A file of the system.
     System(F),
-    /// What was held.
+    /// The standard input.
     Held(HeldFile),
 }
 
@@ -89,7 +89,7 @@ impl<F: Source> Source for TerminalFile<F> {
     }
 }
 
-/// The files of the system, and the standard input where it is held.
+/// The files of the system, and the standard input if it is held in memory.
 #[derive(Drop)]
 pub struct Terminal<'a, R: Files> {
     system: System<'a, R>,
@@ -98,7 +98,7 @@ pub struct Terminal<'a, R: Files> {
 }
 
 impl<'a, R: Files> Terminal<'a, R> {
-    /// The files that this runtime reaches, and this standard input, of which nothing is read yet.
+    /// Returns the files that this runtime reaches, and this standard input, of which nothing is read yet.
     pub fn new(rt: &'a R, stdin: Stdin) -> Terminal<'a, R> {
         Terminal {
             system: System { rt },
@@ -107,8 +107,9 @@ impl<'a, R: Files> Terminal<'a, R> {
         }
     }
 
-    /// When the standard input was changed last, where it is a regular file. Of any other that isn't told, and so it is
-    /// the first second of 1970: beside an index of that time git compares all files with what is staged.
+    /// Returns the modification time of the standard input if it is a regular file. Otherwise that time isn't known,
+    /// and this returns the first second of 1970. With an index of that time git compares all files with what is
+    /// staged.
     fn modified(&self) -> FileTime {
         let untold = FileTime::new(1, 0).unwrap_or(FileTime::EPOCH);
         let Ok(file) = self.system.open(Path::new(STANDARD_INPUT)) else {

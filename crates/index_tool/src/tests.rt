@@ -1,4 +1,4 @@
-//! What the words of a call come to, on files.
+//! What the arguments of a call do, on files.
 
 use crate::run;
 use std::alloc::Global;
@@ -8,18 +8,18 @@ use std::test::Fail;
 /// The header of an index of version 2 without the last byte of its count.
 const HEADER: &[u8] = b"DIRC\0\0\0\x02\0\0\0";
 
-/// What stands before the path of an entry: no times, the mode 100644, an id of ones, and the path's length of 1.
+/// What precedes the path of an entry: no times, the mode 100644, an id of ones, and the path's length of 1.
 const FRONT: &[u8] =
     b"\0\0\0\0\0\0\0\0\0\0\0\0\0\0\0\0\0\0\0\0\0\0\0\0\0\0\x81\xa4\0\0\0\0\0\0\0\0\0\0\0\0\
     \x11\x11\x11\x11\x11\x11\x11\x11\x11\x11\x11\x11\x11\x11\x11\x11\x11\x11\x11\x11\0\x01";
 
-/// What `sha1sum` says of the index of the entry `a`.
+/// What `sha1sum` prints for the index of the entry `a`.
 const DIGEST: [u8; 20] = [
     0x8a, 0xd3, 0x44, 0xe4, 0x4b, 0x15, 0x14, 0xb6, 0x9c, 0x3d, 0x31, 0x88, 0xa2, 0x48, 0x33, 0x12,
     0xdc, 0x74, 0x33, 0x6d,
 ];
 
-/// The words of a call, its status, and what goes to the output.
+/// The arguments of a call, its status, and what is written to the output.
 type Call<'a> = (&'a [&'a str], u8, &'a str);
 
 const LISTED: &str = "100644 1111111111111111111111111111111111111111 0\ta\n";
@@ -38,7 +38,7 @@ const CALLS: [Call; 11] = [
     (&["list", "sha1", "gone"], 1, ""),
 ];
 
-/// An index of entries with these paths of one byte, and this trailer.
+/// Returns an index of entries with these paths of one byte, and this trailer.
 fn index(alloc: Global, paths: &[u8], trailer: [u8; 20]) -> Result<Vec<u8>, Fail> {
     let mut bytes = Vec::new(alloc);
     bytes.extend_from_slice(HEADER)?;
@@ -51,7 +51,7 @@ fn index(alloc: Global, paths: &[u8], trailer: [u8; 20]) -> Result<Vec<u8>, Fail
     Ok(bytes)
 }
 
-/// The status that these words end with, what goes to the output, and how many lines of faults there are.
+/// Returns the status of these arguments, what is written to the output, and the number of error lines.
 fn answered(rt: &HostRuntime, words: &[&str]) -> Result<(u8, Vec<u8>, usize), Fail> {
     let alloc = rt.alloc();
     let mut texts = Vec::new(alloc);

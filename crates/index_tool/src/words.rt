@@ -1,4 +1,4 @@
-//! The words that the program is called with, what stands around it, and the status that it ends with.
+//! The arguments with which the program is called, its environment, and the status with which it ends.
 
 ghost use Rattle.std.specs.Prelude.{◌≡◌, ◌≢◌, ◌↔◌};
 ghost use Rattle.std.specs.Process.{exit_status};
@@ -9,15 +9,16 @@ use crate::command::{REFUSED, WRONG_WORDS, run_in};
 use crate::line::put_line;
 use crate::terminal::Terminal;
 use gix_index::hash::io::{Plain, Retrying};
-use index_input::Surroundings;
 use std::alloc::Global;
 use std::env::VarError;
 use std::io::ErrorKind;
 use std::process::ExitCode;
 use std::rt::Env;
 use std::{env, io};
+use tool_defaults::Surroundings;
 
-/// A variable of the environment, where it is set. What isn't UTF-8 is no path here, and so one that no file has.
+/// Returns a variable of the environment, or `None` if it isn't set. A value that isn't UTF-8 becomes a path that no
+/// file has. Allocation failure is the only error.
 fn variable<R: Env + Alloc<A = Global>>(rt: &R, name: &str) -> Result<Option<String>, ErrorKind> {
     match env::var(rt, name) {
         Ok(value) => Ok(Some(value)),
@@ -30,7 +31,7 @@ fn variable<R: Env + Alloc<A = Global>>(rt: &R, name: &str) -> Result<Option<Str
     }
 }
 
-/// How many folders are above the one that the program runs in; 0 where that isn't told.
+/// Returns how many directories are above the current one, or 0 if that can't be found out.
 fn depth<R: Env + Alloc<A = Global>>(rt: &R) -> usize {
     match env::current_dir(rt) {
         Ok(folder) => folder.as_path().as_str().matches('/').count(),
@@ -38,8 +39,8 @@ fn depth<R: Env + Alloc<A = Global>>(rt: &R) -> usize {
     }
 }
 
-/// The words behind the program's name. [`ErrorKind::OutOfMemory`]: there is no memory for them. Any other kind: a word
-/// isn't UTF-8.
+/// Returns the arguments after the program's name. The error is [`ErrorKind::OutOfMemory`] if an allocation failed, and
+/// any other `ErrorKind` if an argument isn't UTF-8.
 pub fn words_of<R: Env + Alloc<A = Global>>(rt: &R) -> Result<Vec<String>, ErrorKind> {
     let args = match env::args(rt) {
         Ok(args) => args,
@@ -51,7 +52,7 @@ pub fn words_of<R: Env + Alloc<A = Global>>(rt: &R) -> Result<Vec<String>, Error
     }
 }
 
-/// Where the program runs. The one error is [`ErrorKind::OutOfMemory`].
+/// Returns what `--auto` uses of the program's environment. The only error is [`ErrorKind::OutOfMemory`].
 fn surroundings<R: Env + Alloc<A = Global>>(rt: &R) -> Result<Surroundings, ErrorKind> {
     Ok(Surroundings {
         index_file: variable(rt, "GIT_INDEX_FILE")?,
@@ -60,8 +61,8 @@ fn surroundings<R: Env + Alloc<A = Global>>(rt: &R) -> Result<Surroundings, Erro
     })
 }
 
-/// The status of a call whose words can't be had: [`REFUSED`] for want of memory, and [`WRONG_WORDS`] where one isn't
-/// UTF-8.
+/// Returns the status of a call whose arguments can't be read. It is [`REFUSED`] if memory ran out, and [`WRONG_WORDS`]
+/// if an argument isn't UTF-8.
 fn status_of(kind: ErrorKind) -> u8
     ensures refused { (result ≡ REFUSED) ↔ (kind ≡ ErrorKind.OutOfMemory) }
     ensures wrong_words { (result ≡ WRONG_WORDS) ↔ (kind ≢ ErrorKind.OutOfMemory) }
@@ -73,11 +74,11 @@ fn status_of(kind: ErrorKind) -> u8
     }
 }
 
-/// Runs the command that these words, without the program's name, are by [`run_in`], and gives the status that the
-/// program ends with. The files are those of the system, and the standard input and the surroundings those of the program.
+/// Runs the command of these arguments, without the program's name, with [`run_in`], and returns the status with which
+/// the program ends. The files are those of the system. The standard input and the environment are the program's.
 ///
-/// A write that a signal interrupts is tried again. Where there is no memory to find the surroundings, nothing goes to
-/// `out`, no file is opened, and the status is [`REFUSED`].
+/// A write that a signal interrupts is repeated. If memory runs out while the environment is read, nothing is written
+/// to `out`, no file is opened, and the status is [`REFUSED`].
 pub fn run<W: io::Write, E: io::Write>(
     rt: &HostRuntime,
     alloc: Global,
@@ -101,10 +102,10 @@ pub fn run<W: io::Write, E: io::Write>(
     }
 }
 
-/// Runs the command that the words are by [`run`], and gives the status that the program ends with.
+/// Runs the command of the arguments with [`run`], and returns the status with which the program ends.
 ///
-/// Where the words can't be had, no file is opened, nothing goes to `out`, and one line to `faults`: the status is
-/// [`REFUSED`] for want of memory, and [`WRONG_WORDS`] where one isn't UTF-8.
+/// If the arguments can't be read, no file is opened, nothing is written to `out`, and one line to `faults`. The status
+/// is [`REFUSED`] if memory ran out, and [`WRONG_WORDS`] if an argument isn't UTF-8.
 pub fn answer<W: io::Write, E: io::Write>(
     rt: &HostRuntime,
     alloc: Global,

@@ -1,2 +1,2 @@
--- What a store of a row's objects has (the rows' own).
+-- What a store of a row's objects has. This definition belongs to the rows alone.
 pub mod Store

@@ -1,4 +1,4 @@
-//! The rows about edits: entries that are sorted, taken out and verified.
+//! Rows about edits: entries are sorted, removed and verified.
 
 use gix_index::entry::{Flags, Mode, Stage, Stat};
 use gix_index::hash::Kind;
@@ -9,7 +9,7 @@ use test_row_kit::show::{Bytes, Fields, Listed, Text, entries};
 use test_row_kit::words::{id_of, number_of, text_of};
 use test_row_kit::{Fault, Lines, Words};
 
-/// `edits`: what each edit answers, and the entries behind it.
+/// `edits`: appends what each edit returns, and the entries after it.
 pub fn edits(out: &mut Lines, kind: Kind, words: &mut Words<'_>) -> Result<(), Fault> {
     let mut state = words.entries(kind)?;
     for _ in 0..u64::MAX {
@@ -21,7 +21,7 @@ pub fn edits(out: &mut Lines, kind: Kind, words: &mut Words<'_>) -> Result<(), F
     Ok(())
 }
 
-/// What one edit answers, a name and behind `=` what it takes.
+/// Makes one edit and appends its lines. `word` is the name of the edit, and after `=` its argument.
 fn edit(out: &mut Lines, state: &mut State, word: &str) -> Result<(), Fault> {
     let (name, taken) = word.split_once('=').unwrap_or((word, ""));
     match name {
@@ -49,14 +49,14 @@ fn edit(out: &mut Lines, state: &mut State, word: &str) -> Result<(), Fault> {
     Ok(())
 }
 
-/// Tells where an edit had no memory. The entries behind it are as before then.
+/// Appends a line if an allocation of the edit failed. The entries are then as before the edit.
 fn done(out: &mut Lines, word: &str, answer: Result<(), AllocError>) {
     if answer.is_err() {
         writeln!(out, "{word}: fault: memory");
     }
 }
 
-/// Pushes an entry with this path, a plain file with an id of bytes 11.
+/// Pushes an entry with this path: a plain file with the id of bytes 11.
 fn push(out: &mut Lines, word: &str, state: &mut State, path: &str) -> Result<(), Fault> {
     let path = text_of(out.alloc(), path)?;
     let id = id_of(out.alloc(), state.object_hash(), "11")?;
@@ -66,14 +66,14 @@ fn push(out: &mut Lines, word: &str, state: &mut State, path: &str) -> Result<()
     Ok(())
 }
 
-/// Takes the storage of the paths out, tells its bytes, and gives it back.
+/// Takes the path storage out of the state, appends its bytes, and returns it to the state.
 fn lend_storage(out: &mut Lines, word: &str, state: &mut State) {
     let storage = state.take_path_backing();
     writeln!(out, "{word}: storage: {}", Bytes(&storage));
     state.return_path_backing(storage);
 }
 
-/// Tells which entry is the first that isn't above the one before it.
+/// Appends the first entry that isn't greater than the entry before it.
 fn verify(out: &mut Lines, word: &str, state: &State) {
     match state.verify_entries() {
         Ok(()) => writeln!(out, "{word}: verify: ordered"),
@@ -98,7 +98,8 @@ fn verify(out: &mut Lines, word: &str, state: &State) {
     }
 }
 
-/// Takes out the entries at these places, and tells which places the closure sees. It marks each entry with `UPTODATE`.
+/// Removes the entries at these indices, and appends the indices that the closure is called with. The closure marks
+/// each entry with `UPTODATE`.
 fn remove(out: &mut Lines, word: &str, state: &mut State, places: &str) {
     let mut seen = Vec::new(out.alloc());
     state.remove_entries(|place, _path, entry| {
@@ -109,7 +110,7 @@ fn remove(out: &mut Lines, word: &str, state: &mut State, places: &str) {
     writeln!(out, "{word}: seen: {}", Listed(&seen));
 }
 
-/// Whether the place is one of those that a word joins by `,`.
+/// Returns whether `place` is one of the indices in a text that joins them by `,`.
 fn is_among(places: &str, place: usize) -> bool {
     for word in places.split(',') {
         if word.parse::<usize>().is_ok_and(|it| it == place) {
@@ -119,7 +120,7 @@ fn is_among(places: &str, place: usize) -> bool {
     false
 }
 
-/// Gives the entry of a path and a stage, where there is one, the mode of a file that can be run.
+/// Sets the mode of an executable file for the entry with this path and stage, if there is one.
 fn make_executable(alloc: Global, state: &mut State, key: &str) -> Result<(), Fault> {
     let Some((path, stage)) = key.split_once(':') else {
         return Err(Fault::Wrong("a path and a stage"));
@@ -137,7 +138,7 @@ fn make_executable(alloc: Global, state: &mut State, key: &str) -> Result<(), Fa
     Ok(())
 }
 
-/// Takes the entry at a place out, and tells what it is but for its path.
+/// Removes the entry at an index, and appends its fields other than its path.
 fn remove_at(out: &mut Lines, word: &str, state: &mut State, place: usize) -> Result<(), Fault> {
     if place >= state.entries().len() {
         return Err(Fault::Wrong("the place of an entry"));

@@ -1,4 +1,4 @@
-//! The rows about a file: its bytes beside a checksum, and an index that is written to it.
+//! Rows about a file: its bytes compared with a checksum, and an index that is written to it.
 
 use gix_index::entry::FileTime;
 use gix_index::file::{verify, write};
@@ -9,7 +9,7 @@ use std::path::PathBuf;
 use test_row_kit::show::{OrNone, Text, entries, version_of};
 use test_row_kit::{Fault, Lines, Words, refusal};
 
-/// The line of a check of bytes.
+/// Appends the line of a comparison of bytes with a checksum.
 fn verified(out: &mut Lines, name: &str, answer: Result<(), verify::Error>) {
     match answer {
         Ok(()) => out.put(name, "intact"),
@@ -29,7 +29,7 @@ fn verified(out: &mut Lines, name: &str, answer: Result<(), verify::Error>) {
     }
 }
 
-/// `verify-bytes`: whether bytes have this checksum.
+/// `verify-bytes`: appends whether bytes have this checksum.
 pub fn verify_bytes(out: &mut Lines, words: &mut Words<'_>) -> Result<(), Fault> {
     let bytes = words.bytes()?;
     let Some(checksum) = ObjectId::from_bytes(&words.bytes()?) else {
@@ -39,7 +39,7 @@ pub fn verify_bytes(out: &mut Lines, words: &mut Words<'_>) -> Result<(), Fault>
     Ok(())
 }
 
-/// The line of a file, or of its lock, that a step failed for.
+/// Appends the path of the file, or of its lock, for which a step failed.
 fn failed(out: &mut Lines, step: &str, path: &PathBuf) {
     writeln!(
         out,
@@ -48,7 +48,7 @@ fn failed(out: &mut Lines, step: &str, path: &PathBuf) {
     );
 }
 
-/// The line of what is answered to writing.
+/// Appends the result of writing.
 fn written(out: &mut Lines, answer: &Result<(), write::Error>) {
     match answer {
         Ok(()) => out.put("write", "whole"),
@@ -62,7 +62,7 @@ fn written(out: &mut Lines, answer: &Result<(), write::Error>) {
     }
 }
 
-/// How a row has an index written.
+/// Takes the options of writing.
 fn options(words: &mut Words<'_>) -> Options {
     let skip_hash = words.has("null");
     let version = if words.has("v4") {
@@ -77,7 +77,7 @@ fn options(words: &mut Words<'_>) -> Options {
     }
 }
 
-/// `write-file`: what comes of an index that is written to the file of this name, and what that file has then.
+/// `write-file`: writes an index to the file of this name. Appends the result, and the values of the file afterwards.
 pub fn write_file(out: &mut Lines, kind: Kind, words: &mut Words<'_>) -> Result<(), Fault> {
     let (rt, alloc) = (words.rt(), out.alloc());
     let bytes = words.bytes()?;

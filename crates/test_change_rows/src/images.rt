@@ -1,4 +1,4 @@
-//! The rows about writing.
+//! Rows about writing.
 
 use crate::objects::check_of;
 use crate::trees::tree_of;
@@ -16,8 +16,8 @@ use test_row_kit::show::{Bytes, OrNone, version_of};
 use test_row_kit::words::id_of;
 use test_row_kit::{Fault, Lines, Words, refusal};
 
-/// `image`, and `image4` in version 4: the file that is written of a state, after as many times that it was written and
-/// read.
+/// `image`, and `image4` in version 4: appends the file that is written for a state. Before that, the state is written
+/// and read again as often as the row requires.
 pub fn image(
     out: &mut Lines,
     version: VersionChoice,
@@ -53,14 +53,14 @@ pub fn image(
     show(out, &file, options)
 }
 
-/// Marks each entry as one that a file leaves out.
+/// Marks each entry with `REMOVE`, so that a file leaves it out.
 fn mark_removed(state: &mut State) {
     for entry in state.entries_mut() {
         entry.flags = entry.flags.union(Flags::REMOVE);
     }
 }
 
-/// Puts a cached tree in the place of the state's own.
+/// Replaces the state's cache tree extension (TREE). The error is that the state has none.
 fn set_tree(state: &mut State, made: Tree) -> Result<(), Fault> {
     let Some(tree) = state.tree_mut() else {
         return Err(Fault::Wrong("a state with a cached tree"));
@@ -69,7 +69,7 @@ fn set_tree(state: &mut State, made: Tree) -> Result<(), Fault> {
     Ok(())
 }
 
-/// Stages an entry that a file leaves out: a plain file with an id of bytes 11.
+/// Stages an entry that a file leaves out: a plain file with the id of bytes 11.
 fn stage_removed(state: &mut State, kind: Kind, words: &mut Words<'_>) -> Result<(), Fault> {
     let path = words.text()?;
     let entry = Pathless {
@@ -109,7 +109,7 @@ fn choice_of(word: &str) -> Result<Extensions, Fault> {
     })
 }
 
-/// What is read of the file that is written of the state.
+/// Writes the state to memory and returns the state that is read back.
 fn rewritten(alloc: Global, kind: Kind, state: State, options: Options) -> Result<State, Fault> {
     let file = File::from_state(state, PathBuf::new(alloc));
     let mut image = Plain::new(Vec::new(alloc));
@@ -123,7 +123,7 @@ fn rewritten(alloc: Global, kind: Kind, state: State, options: Options) -> Resul
     }
 }
 
-/// Tells what is written of the file.
+/// Appends the result of writing the file: version, checksum, length and bytes.
 fn show(out: &mut Lines, file: &File, options: Options) -> Result<(), Fault> {
     let mut image = Plain::new(Vec::new(out.alloc()));
     match file.write_to(&mut image, options) {
@@ -138,7 +138,7 @@ fn show(out: &mut Lines, file: &File, options: Options) -> Result<(), Fault> {
     Ok(())
 }
 
-/// `end-marker`: the marker behind entries that end there, with no extension before it.
+/// `end-marker`: appends the end marker for entries that end at this offset, with no extension before the marker.
 pub fn end_marker(out: &mut Lines, kind: Kind, words: &mut Words<'_>) -> Result<(), Fault> {
     let mut image = Plain::new(Vec::new(out.alloc()));
     end_of_index_entry::write_to(&mut image, kind, words.number()?, &[])?;
@@ -146,7 +146,7 @@ pub fn end_marker(out: &mut Lines, kind: Kind, words: &mut Words<'_>) -> Result<
     Ok(())
 }
 
-/// `sparse-mark`: the mark of an index with sparse directories.
+/// `sparse-mark`: appends the extension that marks an index with sparse directories.
 pub fn sparse_mark(out: &mut Lines) -> Result<(), Fault> {
     let mut image = Plain::new(Vec::new(out.alloc()));
     sparse::write_to(&mut image)?;
@@ -154,7 +154,7 @@ pub fn sparse_mark(out: &mut Lines) -> Result<(), Fault> {
     Ok(())
 }
 
-/// `write-tree`: the extension of a cached tree, and how long its content is.
+/// `write-tree`: appends the bytes of a cache tree extension (TREE), and the length of its content.
 pub fn tree(out: &mut Lines, kind: Kind, words: &mut Words<'_>) -> Result<(), Fault> {
     let tree = tree_of(kind, words)?;
     let mut image = Plain::new(Vec::new(out.alloc()));

@@ -1,7 +1,7 @@
-//! `index-change-rows`: what becomes of the index of each row of a table: edited, verified, merged and written.
+//! `index-change-rows`: for each row of a table, prints the index after it was edited, verified, merged or written.
 //!
-//! The table comes on standard input. `tests/model/DIALECT.md` says how a row is written and which lines answer it. A
-//! row that can't be understood ends the program with its number on standard error and status 1.
+//! The table is standard input. `tests/model/DIALECT.md` describes how a row is written and which lines answer it. If a
+//! row can't be understood, the program prints the number of its line to standard error and ends with status 1.
 #![tactic(auto)]
 
 mod edits;
@@ -18,7 +18,7 @@ use gix_index::write::VersionChoice;
 use std::process::ExitCode;
 use test_row_kit::{Answer, Fault, Lines, Words, rows};
 
-/// The rows of this program. A new kind of row is an arm of one of the two matches.
+/// The rows of this program. A new call is an arm of one of the two matches.
 struct Rows;
 
 impl Answer for Rows {
@@ -39,7 +39,7 @@ impl Answer for Rows {
     }
 }
 
-/// The answer of a call on an index, which takes a kind of hash first.
+/// Appends the answer to a call whose first argument is a hash algorithm.
 fn answer_index(call: &str, words: &mut Words<'_>, out: &mut Lines) -> Result<(), Fault> {
     let kind = words.kind()?;
     match call {

@@ -1,4 +1,4 @@
-//! The rows about a shared index that is merged into a split one.
+//! Rows about a shared index that is merged into a split index.
 
 use gix_index::extension::link::decode::{Error, decode};
 use gix_index::hash::Kind;
@@ -6,7 +6,8 @@ use std::alloc::AllocError;
 use test_row_kit::show::entries;
 use test_row_kit::{Fault, Lines, Words, refusal};
 
-/// `merge`: what becomes of the split index by a link of these bytes.
+/// `merge`: appends the entries of a split index after it is merged with its shared index. The link is decoded from
+/// bytes.
 pub fn merge(out: &mut Lines, kind: Kind, words: &mut Words<'_>) -> Result<(), Fault> {
     let alloc = out.alloc();
     let shared = words.entries(kind)?;

@@ -1,4 +1,4 @@
-//! A store of the objects that a row spells, and a check of names.
+//! An object store whose content is written in a row, and a check of names.
 
 ghost use Rattle.std.specs.Prelude.{◌≡◌, ◌==◌, ◌&&◌, not, Some, None, if◌then◌else◌};
 ghost use Rattle.std.specs.Prelude.{slice_get, slice_index_or};
@@ -15,23 +15,23 @@ use test_row_kit::{Fault, Words};
 /// What a store has for an id.
 #[derive(Drop)]
 pub enum Object {
-    /// Nothing.
+    /// There is no object.
     Absent,
-    /// Too little memory for it.
+    /// Reading the object fails for lack of memory.
     Unread,
-    /// A fault of the store's own, by its number.
+    /// Reading the object fails with an error of the store, which has this number.
     Fault(u32),
     /// An object with its bytes.
     Whole(Kind, Vec<u8>),
 }
 
-/// A store that tells objects by the first byte of their ids, which is their place in a list.
+/// A store that finds an object by the first byte of its id, which is an index into `objects`.
 #[derive(Drop)]
 pub struct Store {
     objects: Vec<Object>,
 }
 
-/// The first byte of an id.
+/// Returns the first byte of an id.
 fn first_of(id: &ObjectId) -> u8
     ensures { result ≡ slice_index_or (id_bytes id.now) 0 0 }
 {
@@ -59,7 +59,8 @@ impl Find for Store {
     }
 }
 
-/// The store of a list of objects: each the first byte of its ids, what is there, and its bytes or number.
+/// Takes a list of objects and returns their store. An item has the first byte of the id, what is there, and its bytes
+/// or its number.
 pub fn store_of(words: &mut Words<'_>) -> Result<Store, Fault> {
     let alloc = words.alloc();
     let mut objects = Vec::new(alloc);
@@ -70,7 +71,7 @@ pub fn store_of(words: &mut Words<'_>) -> Result<Store, Fault> {
     Ok(Store { objects })
 }
 
-/// Puts one object at its place.
+/// Adds the object of one item to the list.
 fn put(alloc: Global, objects: &mut Vec<Object>, item: &str) -> Result<(), Fault> {
     let mut fields = item.split(':');
     let Ok(place) = u8::from_str_radix(fields.next().unwrap_or(""), 16) else {
@@ -98,7 +99,8 @@ fn object_of(alloc: Global, what: &str, field: &str) -> Result<Object, Fault> {
     Ok(Object::Whole(kind, text_of(alloc, field)?))
 }
 
-/// Refuses the names that begin with a byte, as those of links or not, by a number.
+/// Rejects names that begin with the byte `first` with the error `number`, either those of symbolic links or all
+/// others.
 #[derive(Clone, Copy)]
 pub struct Refuses {
     first: u8,
@@ -125,7 +127,8 @@ impl ComponentCheck for Refuses {
     }
 }
 
-/// A check that refuses names where a word is left: a text's first byte, `link` or `name`, and a number.
+/// Takes an optional check of names: text whose first byte is rejected, `link` or `name`, and a number. Without it, all
+/// names are accepted.
 pub fn check_of(words: &mut Words<'_>) -> Result<Refuses, Fault> {
     let Some(word) = words.optional() else {
         return Ok(Refuses {

@@ -1,11 +1,11 @@
-//! The rows about a part of a state that is set or taken out.
+//! Rows about a part of a state that is set or removed.
 
 use gix_index::State;
 use gix_index::hash::Kind;
 use test_row_kit::show::{OrNone, version_of};
 use test_row_kit::{Fault, Lines, Words, refusal};
 
-/// The state of a row, or None where its bytes can't be read, which is told.
+/// Takes a state. Returns `None` if its bytes can't be decoded, after it has appended the line of the error.
 fn state(out: &mut Lines, kind: Kind, words: &mut Words<'_>) -> Result<Option<State>, Fault> {
     match words.state(kind)? {
         Ok(state) => Ok(Some(state)),
@@ -16,7 +16,7 @@ fn state(out: &mut Lines, kind: Kind, words: &mut Words<'_>) -> Result<Option<St
     }
 }
 
-/// `take-link`: the link that is taken out of a state, and the one that it has then.
+/// `take-link`: takes the link out of a state. Appends its checksum, and the link that the state has afterwards.
 pub fn take_link(out: &mut Lines, kind: Kind, words: &mut Words<'_>) -> Result<(), Fault> {
     let Some(mut state) = state(out, kind, words)? else {
         return Ok(());
@@ -29,7 +29,7 @@ pub fn take_link(out: &mut Lines, kind: Kind, words: &mut Words<'_>) -> Result<(
     Ok(())
 }
 
-/// `set-version`: the version that a state has once this one is set.
+/// `set-version`: sets the version of a state, and appends the version that it has afterwards.
 pub fn set_version(out: &mut Lines, kind: Kind, words: &mut Words<'_>) -> Result<(), Fault> {
     let Some(mut state) = state(out, kind, words)? else {
         return Ok(());

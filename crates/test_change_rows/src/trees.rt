@@ -1,4 +1,5 @@
-//! The rows about cached trees that are verified, with objects or without, and about indexes of trees.
+//! Rows about cache tree extensions (TREE) that are verified, with or without objects, and about indexes of tree
+//! objects.
 
 use crate::objects::{check_of, store_of};
 use gix_index::entry::FileTime;
@@ -13,7 +14,7 @@ use test_row_kit::show::{Bytes, Text, entries};
 use test_row_kit::words::{id_of, items_of, number_of, text_of};
 use test_row_kit::{Fault, Lines, Words, refusal};
 
-/// `verify-tree`: the first fault of a cached tree.
+/// `verify-tree`: appends the first error in a cache tree.
 pub fn tree(out: &mut Lines, kind: Kind, words: &mut Words<'_>) -> Result<(), Fault> {
     let tree = tree_of(kind, words)?;
     let alloc = out.alloc();
@@ -25,7 +26,7 @@ pub fn tree(out: &mut Lines, kind: Kind, words: &mut Words<'_>) -> Result<(), Fa
     Ok(())
 }
 
-/// The cached tree of nodes that are listed in preorder.
+/// Takes the nodes of a cache tree in preorder and returns the tree.
 pub fn tree_of(kind: Kind, words: &mut Words<'_>) -> Result<Tree, Fault> {
     let alloc = words.alloc();
     let mut trees = Vec::new(alloc);
@@ -38,7 +39,7 @@ pub fn tree_of(kind: Kind, words: &mut Words<'_>) -> Result<Tree, Fault> {
     Ok(tree)
 }
 
-/// `from-tree`: the leaves of a tree of objects, or the first fault.
+/// `from-tree`: appends the entries of an index that is made of a tree object, or the first error.
 pub fn leaves(out: &mut Lines, kind: Kind, words: &mut Words<'_>) -> Result<(), Fault> {
     let alloc = out.alloc();
     let root = id_of(alloc, kind, words.next("an id")?)?;
@@ -54,7 +55,7 @@ pub fn leaves(out: &mut Lines, kind: Kind, words: &mut Words<'_>) -> Result<(), 
     Ok(())
 }
 
-/// Puts a node before the trees, which lie in reverse order, and as its children the first of these.
+/// Adds a node to `trees`, which are in reverse order. The last trees of this list become its children.
 fn push_node(alloc: Global, trees: &mut Vec<Tree>, kind: Kind, node: &str) -> Result<(), Fault> {
     let mut fields = node.split(':');
     let name = text_of(alloc, fields.next().unwrap_or(""))?;
@@ -76,7 +77,7 @@ fn push_node(alloc: Global, trees: &mut Vec<Tree>, kind: Kind, node: &str) -> Re
     Ok(())
 }
 
-/// The number of entries below a node, or None for `-`.
+/// Parses the number of entries below a node. `-` is `None`.
 fn count_of(word: &str) -> Result<Option<u32>, Fault> {
     match word {
         "-" => Ok(None),
@@ -84,7 +85,7 @@ fn count_of(word: &str) -> Result<Option<u32>, Fault> {
     }
 }
 
-/// `verify-extensions`: the first fault of the cached tree of an index.
+/// `verify-extensions`: appends the first error in the cache tree of an index.
 pub fn extensions(out: &mut Lines, kind: Kind, words: &mut Words<'_>) -> Result<(), Fault> {
     match words.state(kind)? {
         Ok(state) if words.has("objects") => {

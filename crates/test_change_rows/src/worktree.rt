@@ -1,4 +1,4 @@
-//! The rows about entries beside files of the work tree: modes, stats and times.
+//! Rows about entries and files of the work tree: modes, stats and times.
 
 use gix_index::BitFlags as _;
 use gix_index::entry::mode::Change;
@@ -8,7 +8,7 @@ use gix_index::fs::{FileKind, Metadata};
 use test_row_kit::show::{FileSeconds, OrNone, Seconds, StatNumbers, sign_of, yes};
 use test_row_kit::{Fault, Lines, Words};
 
-/// The kind of a file.
+/// Takes the type of a file: `file`, `directory`, `link` or `other`.
 fn file_kind(words: &mut Words<'_>) -> Result<FileKind, Fault> {
     match words.next("the kind of a file")? {
         "file" => Ok(FileKind::File),
@@ -19,8 +19,8 @@ fn file_kind(words: &mut Words<'_>) -> Result<FileKind, Fault> {
     }
 }
 
-/// Which numbers are compared, by their letters: `c` for ctime, `s` for the stat, `n` for nanoseconds, `d` for the
-/// device.
+/// Takes letters that select which numbers are compared: `c` for ctime, `s` for the stat, `n` for nanoseconds, `d` for
+/// the device.
 fn options(words: &mut Words<'_>) -> Result<Options, Fault> {
     let word = words.next("the letters of options")?;
     Ok(Options {
@@ -45,7 +45,7 @@ fn metadata_of(kind: FileKind, owner_executable: bool) -> Metadata {
     }
 }
 
-/// `change-mode`: what an entry's mode has to become beside a file, and what it is then.
+/// `change-mode`: appends how an entry's mode has to change to match a file, and the mode after the change.
 pub fn change_mode(out: &mut Lines, words: &mut Words<'_>) -> Result<(), Fault> {
     let mode = Mode::from_bits_retain(words.octal()?);
     let metadata = metadata_of(file_kind(words)?, words.yes()?);
@@ -66,7 +66,7 @@ pub fn change_mode(out: &mut Lines, words: &mut Words<'_>) -> Result<(), Fault> 
     Ok(())
 }
 
-/// `racy`: whether an entry with this mtime is racy.
+/// `racy`: appends whether an entry with this mtime is racy.
 pub fn racy(out: &mut Lines, words: &mut Words<'_>) -> Result<(), Fault> {
     let timestamp = words.file_time()?;
     let stat = Stat {
@@ -77,7 +77,7 @@ pub fn racy(out: &mut Lines, words: &mut Words<'_>) -> Result<(), Fault> {
     Ok(())
 }
 
-/// `stats`: whether two stats match.
+/// `stats`: appends whether two stats match.
 pub fn stats(out: &mut Lines, words: &mut Words<'_>) -> Result<(), Fault> {
     let options = options(words)?;
     let (one, other) = (words.stat()?, words.stat()?);
@@ -85,7 +85,7 @@ pub fn stats(out: &mut Lines, words: &mut Words<'_>) -> Result<(), Fault> {
     Ok(())
 }
 
-/// A file's time, or None for `-`.
+/// Takes the time of a file. `-` is `None`.
 fn optional_time(words: &mut Words<'_>) -> Result<Option<FileTime>, Fault> {
     if words.has("-") {
         return Ok(None);
@@ -93,7 +93,7 @@ fn optional_time(words: &mut Words<'_>) -> Result<Option<FileTime>, Fault> {
     Ok(Some(words.file_time()?))
 }
 
-/// `stat`: the stat of a file.
+/// `stat`: appends the stat of a file.
 pub fn stat(out: &mut Lines, words: &mut Words<'_>) -> Result<(), Fault> {
     let metadata = Metadata {
         kind: FileKind::File,
@@ -110,7 +110,8 @@ pub fn stat(out: &mut Lines, words: &mut Words<'_>) -> Result<(), Fault> {
     Ok(())
 }
 
-/// `entry-time`: what an entry has of a file's time, exactly, and by its low bits.
+/// `entry-time`: appends the time of an entry for the time of a file: the exact conversion, and the one to the low
+/// bits.
 pub fn entry_time(out: &mut Lines, words: &mut Words<'_>) -> Result<(), Fault> {
     let time = words.file_time()?;
     out.put("try_from", OrNone(Time::try_from(time).ok().map(Seconds)));
@@ -121,13 +122,13 @@ pub fn entry_time(out: &mut Lines, words: &mut Words<'_>) -> Result<(), Fault> {
     Ok(())
 }
 
-/// `file-time`: an entry's time as a file's.
+/// `file-time`: appends the time of a file for the time of an entry.
 pub fn file_time(out: &mut Lines, words: &mut Words<'_>) -> Result<(), Fault> {
     out.put("time", FileSeconds(FileTime::from(words.time()?)));
     Ok(())
 }
 
-/// `compare-times`: how an entry's time stands to a file's.
+/// `compare-times`: appends the order of an entry's time and a file's time.
 pub fn compare_times(out: &mut Lines, words: &mut Words<'_>) -> Result<(), Fault> {
     let time = words.time()?;
     let order = time.cmp_file_time(words.file_time()?);
@@ -135,7 +136,7 @@ pub fn compare_times(out: &mut Lines, words: &mut Words<'_>) -> Result<(), Fault
     Ok(())
 }
 
-/// `tree-mode`: the mode that a tree has in place of an entry's.
+/// `tree-mode`: appends the mode that a tree object has for an entry with this mode.
 pub fn tree_mode(out: &mut Lines, words: &mut Words<'_>) -> Result<(), Fault> {
     let mode = Mode::from_bits_retain(words.octal()?);
     match mode.to_tree_entry_mode() {

@@ -1,4 +1,4 @@
-//! The rows about the trees that are written of an index, and about a cached tree beside its entries.
+//! Rows about the tree objects that are written for an index, and about a cache tree compared with the entries.
 
 ghost use Rattle.std.specs.Prelude.{None, Some};
 
@@ -12,7 +12,7 @@ use gix_index::write_trees::{Error, NameFault, Sink};
 use test_row_kit::show::{Bytes, ShortId, Text};
 use test_row_kit::{Fault, Lines, Words, refusal};
 
-/// A line for each tree that was taken, and how many more are.
+/// A sink for tree objects: collects a line for each object, and fails after `left` more of them.
 #[derive(Drop)]
 struct Objects {
     lines: Lines,
@@ -34,7 +34,8 @@ impl Sink for Objects {
     }
 }
 
-/// `write-trees`: the trees of the entries in turn, and the cached tree of them, or the first refusal.
+/// `write-trees`: appends the tree objects of the entries in the order of writing, and their cache tree or the first
+/// error.
 pub fn write(out: &mut Lines, kind: Kind, words: &mut Words<'_>) -> Result<(), Fault> {
     let state = match words.state(kind)? {
         Ok(state) => state,
@@ -63,7 +64,7 @@ pub fn write(out: &mut Lines, kind: Kind, words: &mut Words<'_>) -> Result<(), F
     Ok(())
 }
 
-/// The nodes of a cached tree in preorder.
+/// Appends the nodes of a cache tree in preorder.
 fn nodes(out: &mut Lines, tree: &Tree) {
     let mut left = Vec::new(out.alloc());
     out.note(left.push(tree));
@@ -81,14 +82,14 @@ fn nodes(out: &mut Lines, tree: &Tree) {
     }
 }
 
-/// Puts the children of a node on the nodes that are left, the last one first.
+/// Pushes the children of a node onto the stack `left`, the last child first.
 fn push_children<'a>(out: &mut Lines, left: &mut Vec<&'a Tree>, it: &'a Tree) {
     for child in it.children.iter().rev() {
         out.note(left.push(child));
     }
 }
 
-/// `verify-tree-ids`: the first node of a cached tree that tells something else than the entries give.
+/// `verify-tree-ids`: appends the first node of a cache tree that doesn't match the entries.
 pub fn verify(out: &mut Lines, kind: Kind, words: &mut Words<'_>) -> Result<(), Fault> {
     let mut state = words.entries(kind)?;
     if words.has("tree") {

@@ -1,4 +1,5 @@
-//! The lookups over entries in any order: the first at a path and at a directory, with case kept and ignored.
+//! Lookups over entries in any order: the first entry at a path and at a directory, case-sensitive and
+//! case-insensitive.
 
 ghost use Rattle.std.specs.Prelude.{◌≡◌};
 ghost use Rattle.gix_index.specs.State.{records};
@@ -10,7 +11,7 @@ use std::alloc::AllocError;
 use test_row_kit::Lines;
 use test_row_kit::show::{OrNone, Text, yes};
 
-/// Tells what they answer for each path.
+/// Appends what the lookups return for the entries and for each path.
 pub fn lookups(out: &mut Lines, state: &State, paths: &[Vec<u8>]) -> Result<(), AllocError> {
     let lookup = state.prepare_icase_backing(out.alloc())?;
     out.put("directories", lookup.directories(false));
@@ -24,7 +25,7 @@ pub fn lookups(out: &mut Lines, state: &State, paths: &[Vec<u8>]) -> Result<(), 
     Ok(())
 }
 
-/// The paths of the entries that no merge left.
+/// Appends the paths of the entries whose stage is `Unconflicted`.
 fn unconflicted(out: &mut Lines, state: &State) {
     write!(out, "entries_with_paths_by_filter_map: [");
     let mut is_first = true;
@@ -44,7 +45,7 @@ fn unconflicted(out: &mut Lines, state: &State) {
     writeln!(out, "]");
 }
 
-/// Whether the entries increase by path, then stage.
+/// Returns whether the entries strictly increase by path and then stage.
 pub fn is_strictly_ordered(state: &State) -> bool {
     for (entry, next) in state.entries().iter().zip(state.entries().iter().skip(1)) {
         if entry.cmp(next, state).is_ge() {
@@ -54,7 +55,7 @@ pub fn is_strictly_ordered(state: &State) -> bool {
     true
 }
 
-/// What the searches for an entry and for a directory find.
+/// Appends what the searches for an entry and for a directory find.
 fn search(out: &mut Lines, state: &State, lookup: &AccelerateLookup<'_>, path: &[u8])
     requires { lookup.now ≡ records state.now }
 {
@@ -88,7 +89,7 @@ fn search(out: &mut Lines, state: &State, lookup: &AccelerateLookup<'_>, path: &
     put(out, path, "path_is_directory_icase", Both(kept, ignored));
 }
 
-/// The places of two entries.
+/// Appends the indices of two entries.
 fn entries(
     out: &mut Lines,
     state: &State,

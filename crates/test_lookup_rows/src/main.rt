@@ -1,7 +1,7 @@
-//! `index-lookup-rows`: what lookups and searches answer for each row of a table.
+//! `index-lookup-rows`: prints what lookups and searches return for each row of a table.
 //!
-//! The table comes on standard input. `tests/model/DIALECT.md` says how a row is written and which lines answer it. A
-//! row that can't be understood ends the program with its number on standard error and status 1.
+//! The table is standard input. `tests/model/DIALECT.md` describes how a row is written and which lines answer it. If a
+//! row can't be understood, the program prints the number of its line to standard error and ends with status 1.
 #![tactic(auto)]
 
 mod icase;
@@ -37,7 +37,8 @@ impl Answer for Rows {
     }
 }
 
-/// What the lookups answer for the paths. A new lookup is a line of one of the three modules.
+/// Appends what the lookups return for the paths. A new lookup is a line in one of the modules `icase`, `ordered` and
+/// `unordered`.
 fn lookup(out: &mut Lines, state: &State, paths: &[Vec<u8>]) -> Result<(), Fault> {
     icase::lookups(out, state, paths)?;
     if state.is_ordered_by_path() {

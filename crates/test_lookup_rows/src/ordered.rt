@@ -1,4 +1,4 @@
-//! The lookups over entries whose paths never fall.
+//! Lookups over entries whose paths are in order.
 
 ghost use Rattle.gix_index.specs.Order.{IsOrderedByPath};
 ghost use Rattle.gix_index.specs.State.{records};
@@ -15,7 +15,7 @@ use test_row_kit::show::{OrNone, Text, yes};
 /// All stages.
 const STAGES: [Stage; 4] = [Stage::Unconflicted, Stage::Base, Stage::Ours, Stage::Theirs];
 
-/// Tells what they answer for each path.
+/// Appends what the lookups return for all paths together and for each path.
 pub fn lookups(out: &mut Lines, state: &State, paths: &[Vec<u8>]) -> Result<(), AllocError>
     requires { IsOrderedByPath (records state.now) }
 {
@@ -38,7 +38,7 @@ pub fn lookups(out: &mut Lines, state: &State, paths: &[Vec<u8>]) -> Result<(), 
     Ok(())
 }
 
-/// What searches for the path find.
+/// Appends what the searches for the path find.
 fn searches(out: &mut Lines, state: &State, table: &DirectoryTable<'_>, path: &[u8]) {
     let most = most_compared(state.entries().len());
     let found = search(out, state, path, "search_path", most);
@@ -60,7 +60,11 @@ fn search<S: PathSearch>(
     found
 }
 
-/// Puts the place that was found, where no other entry has the path, or the place that it belongs at.
+/// Appends the result of a search:
+///
+/// - the index of the entry, if it is the only one with the path;
+/// - `found`, if several entries have the path;
+/// - the index at which the path would be inserted, if none has it.
 fn tell_place(
     out: &mut Lines,
     state: &State,
@@ -79,7 +83,7 @@ fn tell_place(
     }
 }
 
-/// The most names of directories and paths that a search for the path by way of them may compare.
+/// Returns the largest number of directory names and paths that a search by directory table may compare.
 fn most_by_table(table: &DirectoryTable<'_>, len: usize, path: &[u8]) -> usize {
     let Some(slash) = path.iter().rposition(|byte| *byte == b'/') else {
         return most_compared(len);
@@ -91,7 +95,7 @@ fn most_by_table(table: &DirectoryTable<'_>, len: usize, path: &[u8]) -> usize {
     most_compared(table.directories()).saturating_add(most_compared(inside))
 }
 
-/// The ranges and directories that begin with the path.
+/// Appends the ranges and directories that begin with the path.
 fn ranges(out: &mut Lines, state: &State, table: &DirectoryTable<'_>, path: &[u8]) {
     range(out, path, "directory_table range", table.range(path));
     range(out, path, "entry_range", state.entry_range(path));
@@ -118,7 +122,8 @@ fn range(out: &mut Lines, path: &[u8], name: &str, range: Option<Range<usize>>) 
     put(out, path, name, OrNone(range.map(Places)));
 }
 
-/// What searches for the path and each stage find where the order is strict, and the entry at the path.
+/// Appends what the searches for the path and each stage find, and the entry at the path. The entries are in strict
+/// order.
 fn stages(out: &mut Lines, state: &State, table: &DirectoryTable<'_>, path: &[u8]) {
     let most = most_compared(state.entries().len());
     search_stages(out, state, path, "search_path_and_stage", most);
@@ -139,7 +144,7 @@ fn stages(out: &mut Lines, state: &State, table: &DirectoryTable<'_>, path: &[u8
     bounded(out, state, path);
 }
 
-/// The places among the first half of the entries of the path and each stage.
+/// Appends, for the path and each stage, the index of an entry in the first half of the entries.
 fn bounded(out: &mut Lines, state: &State, path: &[u8]) {
     let half = state.entries().len() / 2;
     write!(

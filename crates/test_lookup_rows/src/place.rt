@@ -1,4 +1,4 @@
-//! The values of lookups: places, ranges and counts.
+//! Formats the results of lookups: indices, ranges and counts.
 
 use gix_index::{Entry, State};
 use std::fmt::{self, Display};
@@ -6,18 +6,18 @@ use std::ops::Range;
 use test_row_kit::Lines;
 use test_row_kit::show::Text;
 
-/// The first place of an entry that equals this one.
+/// Returns the index of the first entry that equals `entry`.
 pub fn place_of(state: &State, entry: Option<&Entry>) -> Option<usize> {
     let entry = entry?;
     state.entries().iter().position(|it| it == entry)
 }
 
-/// Puts the line of one lookup for a path.
+/// Appends the line of one lookup for a path.
 pub fn put<D: Display + Drop>(out: &mut Lines, path: &[u8], name: &str, value: D) {
     writeln!(out, "{}: {name}: {value}", Text(path));
 }
 
-/// The places of a range.
+/// Displays a range of indices.
 #[derive(Drop)]
 pub struct Places(pub Range<usize>);
 
@@ -27,7 +27,7 @@ impl Display for Places {
     }
 }
 
-/// Two values: with case kept, and with case ignored.
+/// Displays two values: the case-sensitive and the case-insensitive one.
 #[derive(Clone, Copy)]
 pub struct Both<K, I>(pub K, pub I);
 
@@ -37,13 +37,14 @@ impl<K: Display, I: Display> Display for Both<K, I> {
     }
 }
 
-/// The most paths that a search among so many may compare: one more than their number has binary digits.
+/// Returns the largest number of paths that a search in `len` entries may compare: one more than the number of binary
+/// digits of `len`.
 pub fn most_compared(len: usize) -> usize {
     let digits = usize::BITS.saturating_sub(len.leading_zeros());
     digits.saturating_add(1) as usize
 }
 
-/// Puts the line of how many paths a search compared: the most that it may, or how many more.
+/// Appends the line of the number of paths that a search compared: only `most` if it isn't exceeded, otherwise both.
 pub fn compared(out: &mut Lines, path: &[u8], name: &str, count: usize, most: usize) {
     if count <= most {
         writeln!(out, "{}: {name} comparisons: at most {most}", Text(path));

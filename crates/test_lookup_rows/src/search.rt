@@ -1,4 +1,4 @@
-//! One search for a path, how many paths it compares, and the order that it goes by.
+//! One search for a path, the number of paths that it compares, and the order of entries.
 
 use crate::place::most_compared;
 use gix_index::State;
@@ -6,7 +6,7 @@ use gix_index::entry::Stage;
 use test_row_kit::show::{Item, OrNone, sign_of};
 use test_row_kit::{Fault, Lines, Words};
 
-/// `search`: where the path stands, or the path and the stage.
+/// `search`: appends the index of the path, or of the path and the stage.
 pub fn search(out: &mut Lines, state: &State, words: &mut Words<'_>) -> Result<(), Fault> {
     let path = words.text()?;
     match words.stage()? {
@@ -32,7 +32,7 @@ fn search_stage(out: &mut Lines, state: &State, path: &[u8], stage: Stage) {
     out.put("entry_by_path_and_stage", OrNone(item));
 }
 
-/// Where a search ended: at a place, or before the place where the path belongs.
+/// Appends the result of a search: the index of the entry, or the index at which the path would be inserted.
 fn place(out: &mut Lines, name: &str, found: Result<usize, usize>) {
     match found {
         Ok(place) => writeln!(out, "{name}: at {place}"),
@@ -40,7 +40,8 @@ fn place(out: &mut Lines, name: &str, found: Result<usize, usize>) {
     }
 }
 
-/// How many paths a search compared: at most as many as it may, and one at least where there are entries.
+/// Appends the line of the number of paths that a search compared. The number is in range if it is at most
+/// [`most_compared`], and at least one unless there are no entries.
 fn compared(out: &mut Lines, name: &str, state: &State, count: usize) {
     let len = state.entries().len();
     let most = most_compared(len);
@@ -51,7 +52,7 @@ fn compared(out: &mut Lines, name: &str, state: &State, count: usize) {
     }
 }
 
-/// `order`: each entry compared with the next.
+/// `order`: appends the order of each entry and the next one.
 pub fn order(out: &mut Lines, state: &State) {
     let pairs = state.entries().iter().zip(state.entries().iter().skip(1));
     for (place, (entry, next)) in pairs.enumerate() {

@@ -1,10 +1,10 @@
-//! The lookups over entries whose paths fall somewhere: whether what they give lies among the entries.
+//! Lookups over entries whose paths are not in order: whether their results are in the range of the entries.
 
 use crate::place::put;
 use gix_index::State;
 use test_row_kit::Lines;
 
-/// Tells it for each path.
+/// Appends the lines of all lookups for each path.
 pub fn lookups(out: &mut Lines, state: &State, paths: &[Vec<u8>]) {
     for path in paths {
         lookup(out, state, path);
@@ -36,7 +36,7 @@ fn lookup(out: &mut Lines, state: &State, path: &[u8]) {
     );
 }
 
-/// Whether what is told lies among the entries.
+/// Returns the value of the line: whether the result is in the range of the entries.
 fn among(is_inside: bool) -> &'static str {
     match is_inside {
         true => "among the entries",

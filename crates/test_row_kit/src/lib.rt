@@ -1,6 +1,10 @@
-//! What programs share that answer tables of rows: the loop over a table, the words of a row, and the texts of answers.
+//! What the programs share that answer tables of rows:
 //!
-//! `tests/model/DIALECT.md` says how rows and answers are written.
+//! - the loop over a table,
+//! - the arguments of a row,
+//! - the text of answers.
+//!
+//! `tests/model/DIALECT.md` describes how rows and answers are written.
 #![tactic(auto)]
 
 pub mod fault;
@@ -15,13 +19,14 @@ use std::io::{self, BufRead, BufReader, BufWriter, Write};
 use std::process::ExitCode;
 pub use words::Words;
 
-/// What a program answers to a row.
+/// A program that answers rows.
 pub trait Answer {
-    /// Puts the lines of a call's answer at the end. The call is the word before the others.
+    /// Appends the lines of the answer to a call to `out`. `call` is the first argument of the row, `words` are the
+    /// others.
     fn answer(&self, call: &str, words: &mut Words<'_>, out: &mut Lines) -> Result<(), Fault>;
 }
 
-/// The row and its answer, in lines.
+/// Returns the row and its answer, as lines.
 fn answered<A: Answer>(rt: &HostRuntime, program: &A, row: &str) -> Result<String, Fault> {
     let words: Vec<&str> = row.split_whitespace().collect(rt.alloc())?;
     let mut words = Words::new(rt, &words);
@@ -32,7 +37,8 @@ fn answered<A: Answer>(rt: &HostRuntime, program: &A, row: &str) -> Result<Strin
     Ok(out.end()?)
 }
 
-/// Answers each row of the table. `line` is the number of the last line that was read, counted from 1.
+/// Answers each row of the table. `line` is incremented for each line that is read, from 0, so it is the number of the
+/// last line that was read, counted from 1.
 fn answer_all<A: Answer, W: Write>(
     rt: &HostRuntime,
     program: &A,
@@ -51,7 +57,7 @@ fn answer_all<A: Answer, W: Write>(
     Ok(())
 }
 
-/// Answers the table, and prints what was answered before a fault.
+/// Answers the table. After an error the answers before it are printed all the same.
 fn run<A: Answer>(rt: &HostRuntime, program: &A, line: &mut u64) -> Result<(), Fault> {
     let mut out = BufWriter::new(rt.alloc(), io::writer(rt))?;
     let outcome = answer_all(rt, program, &mut out, line);
@@ -59,8 +65,10 @@ fn run<A: Answer>(rt: &HostRuntime, program: &A, line: &mut u64) -> Result<(), F
     outcome
 }
 
-/// Answers the table on standard input: behind `> ` each row, and below it the lines of its answer. A row that can't be
-/// understood ends the program of this name with the row's number on standard error and status 1.
+/// Answers the table on standard input. For each row, prints the row after `> ` and then the lines of its answer.
+///
+/// If a row can't be understood, prints the program's `name` and the number of the row's line to standard error and
+/// returns status 1. Later rows are not read.
 pub fn rows<A: Answer>(rt: &HostRuntime, name: &str, program: &A) -> ExitCode {
     let mut line = 0;
     let Err(fault) = run(rt, program, &mut line) else {

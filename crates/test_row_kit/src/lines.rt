@@ -3,8 +3,8 @@
 use std::alloc::{AllocError, Global};
 use std::fmt::Display;
 
-/// The answer of a row, put together in memory by `put`, `write!` and `writeln!`, of which none can fail: where memory
-/// is wanting, `end` says so.
+/// The answer to a row, collected in memory. `put`, `write!` and `writeln!` append to it and can't fail. If an
+/// allocation failed, `end` returns the error.
 #[derive(Drop)]
 pub struct Lines {
     alloc: Global,
@@ -13,7 +13,7 @@ pub struct Lines {
 }
 
 impl Lines {
-    /// No lines.
+    /// Returns an answer without lines.
     pub fn new(alloc: Global) -> Lines {
         Lines {
             alloc,
@@ -22,30 +22,30 @@ impl Lines {
         }
     }
 
-    /// What the memory of an answer comes from.
+    /// Returns the allocator of the answer.
     pub fn alloc(&self) -> Global {
         self.alloc
     }
 
-    /// Puts text at the end.
+    /// Appends text.
     pub fn write_fmt<D: Display + Drop>(&mut self, text: D) {
         let grown = self.text.write_fmt(text);
         self.note(grown);
     }
 
-    /// Puts the line of one value.
+    /// Appends the line `NAME: VALUE`.
     pub fn put<D: Display + Drop>(&mut self, name: &str, value: D) {
         writeln!(self, "{name}: {value}");
     }
 
-    /// Takes note where memory that an answer needs is refused.
+    /// Records a failed allocation, if `grown` is an error. Then `end` fails.
     pub fn note<E: Drop>(&mut self, grown: Result<(), E>) {
         if grown.is_err() {
             self.is_short = true;
         }
     }
 
-    /// All that was put, where memory sufficed.
+    /// Returns all text that was appended, or an error if an allocation failed.
     pub fn end(self) -> Result<String, AllocError> {
         if self.is_short {
             return Err(AllocError);

@@ -1,4 +1,4 @@
-//! What the library refuses: a line with the kind of the refusal and what it carries.
+//! Lines for the errors of the library: which error it is, with the values that it carries.
 
 use crate::Lines;
 use crate::show::Text;
@@ -7,7 +7,7 @@ use gix_index::extension::link;
 use gix_index::file::init;
 use gix_index::{ewah, extension, write};
 
-/// The refusal of a whole index.
+/// Appends the line of an error of decoding an index.
 pub fn decode(out: &mut Lines, refusal: &decode::Error) {
     match refusal {
         decode::Error::Header(refusal) => header(out, refusal),
@@ -41,7 +41,7 @@ fn extension(out: &mut Lines, refusal: &extension::decode::Error) {
     }
 }
 
-/// The refusal of a link.
+/// Appends the line of an error of decoding a link extension.
 pub fn link(out: &mut Lines, refusal: &link::decode::Error) {
     match refusal {
         link::decode::Error::Corrupt(text) => writeln!(out, "fault: link: {text}"),
@@ -52,12 +52,12 @@ pub fn link(out: &mut Lines, refusal: &link::decode::Error) {
     }
 }
 
-/// The refusal of a bitmap.
+/// Appends the line of an error of decoding a bitmap.
 pub fn bitmap(out: &mut Lines, refusal: &ewah::Error) {
     writeln!(out, "fault: bitmap: {}", part_of(refusal));
 }
 
-/// What of a bitmap can't be read.
+/// Returns the name of the part of a bitmap that can't be read.
 fn part_of(refusal: &ewah::Error) -> &'static str {
     match refusal {
         ewah::Error::NumBits => "number of bits",
@@ -68,7 +68,7 @@ fn part_of(refusal: &ewah::Error) -> &'static str {
     }
 }
 
-/// The refusal of a file.
+/// Appends the line of an error of reading an index file.
 pub fn file(out: &mut Lines, refusal: &init::Error) {
     match refusal {
         init::Error::Io(_) => out.put("fault", "file"),
@@ -78,7 +78,7 @@ pub fn file(out: &mut Lines, refusal: &init::Error) {
     }
 }
 
-/// The refusal of what is written.
+/// Appends the line of an error of writing an index.
 pub fn write(out: &mut Lines, refusal: &write::Error) {
     match refusal {
         write::Error::TooManyEntries => out.put("fault", "too many entries"),

@@ -1,4 +1,4 @@
-//! The values of answers as text.
+//! Formats the values of answers as text.
 
 mod bytes;
 mod listing;
@@ -11,7 +11,7 @@ pub use listing::{Fields, FileSeconds, Item, Seconds, ShortId, StatNumbers, entr
 use std::cmp::Ordering;
 use std::fmt::{self, Display};
 
-/// `yes` or `no`.
+/// Returns `yes` or `no`.
 pub fn yes(holds: bool) -> &'static str {
     match holds {
         true => "yes",
@@ -19,7 +19,7 @@ pub fn yes(holds: bool) -> &'static str {
     }
 }
 
-/// The sign between two values of this order.
+/// Returns the sign of an order: `<`, `=` or `>`.
 pub fn sign_of(order: Ordering) -> &'static str {
     match order {
         Ordering::Less => "<",
@@ -28,7 +28,7 @@ pub fn sign_of(order: Ordering) -> &'static str {
     }
 }
 
-/// A version as its header has it.
+/// Returns the number of a version, as the header of an index has it.
 pub fn version_of(version: Version) -> u32 {
     match version {
         Version::V2 => 2,
@@ -37,7 +37,7 @@ pub fn version_of(version: Version) -> u32 {
     }
 }
 
-/// A kind as a row names it.
+/// Returns the name of a hash algorithm, as rows have it.
 pub fn kind_of(kind: Kind) -> &'static str {
     match kind {
         Kind::Sha1 => "sha1",
@@ -45,7 +45,7 @@ pub fn kind_of(kind: Kind) -> &'static str {
     }
 }
 
-/// A stage by its name.
+/// Returns the name of a stage.
 pub fn stage_of(stage: Stage) -> &'static str {
     match stage {
         Stage::Unconflicted => "unconflicted",
@@ -55,7 +55,7 @@ pub fn stage_of(stage: Stage) -> &'static str {
     }
 }
 
-/// A value, or `none`.
+/// Displays a value, or `none`.
 #[derive(Clone, Copy)]
 pub struct OrNone<T>(pub Option<T>);
 
@@ -68,7 +68,7 @@ impl<T: Display> Display for OrNone<T> {
     }
 }
 
-/// Values as a list.
+/// Displays values as a list: joined by `;`, in square brackets.
 #[derive(Clone, Copy)]
 pub struct Listed<'a, T>(pub &'a [T]);
 

@@ -1,4 +1,4 @@
-//! The words of a row, and what each stands for.
+//! The arguments of a row, and how each is parsed.
 
 mod bytes;
 mod entries;
@@ -17,14 +17,14 @@ use std::alloc::{AllocError, Global};
 use std::marker::Model;
 use std::str::FromStr;
 
-/// The words of a row that are left, taken in turn.
+/// The arguments of a row that are not yet taken.
 #[derive(Drop)]
 pub struct Words<'a> {
     rt: &'a HostRuntime,
     left: &'a [&'a str],
 }
 
-/// Words are seen as the list of those that are left.
+/// The model is the list of the arguments that are not yet taken.
 impl<'a> Model for Words<'a> {
     ghost Value = { List (List ℕ) };
 
@@ -32,24 +32,24 @@ impl<'a> Model for Words<'a> {
 }
 
 impl<'a> Words<'a> {
-    /// All of a row's words.
+    /// Returns all arguments of a row.
     pub fn new(rt: &'a HostRuntime, words: &'a [&'a str]) -> Words<'a>
         ensures { result ≡ map (λ word. word.now) words.now }
     {
         Words { rt, left: words }
     }
 
-    /// What files are opened by.
+    /// Returns the runtime that opens files.
     pub fn rt(&self) -> &'a HostRuntime {
         self.rt
     }
 
-    /// What the memory of values comes from.
+    /// Returns the allocator of the values.
     pub fn alloc(&self) -> Global {
         self.rt.alloc()
     }
 
-    /// Takes the next word, which is `wanted`.
+    /// Takes the next argument. If there is none, the error is [`Fault::Missing`] with `wanted`.
     pub fn next(&mut self, wanted: &'static str) -> Result<&'a str, Fault>
         ensures taken { IfOk result (λ word. self.old ≡ word.now ∷ self.new) }
         ensures missing { OnErr result (self.old ≡ []) }
@@ -57,7 +57,7 @@ impl<'a> Words<'a> {
         self.optional().ok_or(Fault::Missing(wanted))
     }
 
-    /// Takes the next word, where there is one.
+    /// Takes the next argument. Returns `None` if there is none.
     pub fn optional(&mut self) -> Option<&'a str>
         ensures taken { IfSome result (λ word. self.old ≡ word.now ∷ self.new) }
         ensures missing { IfNone result (self.old ≡ []) }
@@ -67,7 +67,7 @@ impl<'a> Words<'a> {
         Some(word)
     }
 
-    /// Takes the next word where it is this name.
+    /// Takes the next argument if it equals `name`. Returns whether it did.
     pub fn has(&mut self, name: &str) -> bool
         ensures left { (result ≡ false) → (self.new ≡ self.old) }
     {
@@ -80,7 +80,7 @@ impl<'a> Words<'a> {
         }
     }
 
-    /// Nothing may be left.
+    /// Returns the error [`Fault::Surplus`] if an argument is not yet taken.
     pub fn end(&self) -> Result<(), Fault>
         ensures ok { OnOk result (self.now ≡ []) }
     {
@@ -90,7 +90,7 @@ impl<'a> Words<'a> {
         Err(Fault::Surplus)
     }
 
-    /// `yes` or `no`.
+    /// Takes `yes` or `no`.
     pub fn yes(&mut self) -> Result<bool, Fault> {
         match self.next("yes or no")? {
             "yes" => Ok(true),
@@ -99,7 +99,7 @@ impl<'a> Words<'a> {
         }
     }
 
-    /// `sha1` or `sha256`.
+    /// Takes a hash algorithm: `sha1` or `sha256`.
     pub fn kind(&mut self) -> Result<Kind, Fault> {
         match self.next("a kind of hash")? {
             "sha1" => Ok(Kind::Sha1),
@@ -108,7 +108,7 @@ impl<'a> Words<'a> {
         }
     }
 
-    /// `v2`, `v3` or `v4`.
+    /// Takes a version: `v2`, `v3` or `v4`.
     pub fn version(&mut self) -> Result<Version, Fault> {
         match self.next("a version")? {
             "v2" => Ok(Version::V2),
@@ -118,7 +118,7 @@ impl<'a> Words<'a> {
         }
     }
 
-    /// A number in decimal digits.
+    /// Takes a number in decimal digits.
     pub fn number<N: FromStr>(&mut self) -> Result<N, Fault>
     where
         N::Err: Drop,
@@ -126,7 +126,7 @@ impl<'a> Words<'a> {
         number_of(self.next("a number")?)
     }
 
-    /// A number in decimal digits behind this name, or None where the name isn't next.
+    /// Takes `name` and then a number in decimal digits. Returns `None` if the next argument isn't `name`.
     pub fn number_named(&mut self, name: &str) -> Result<Option<usize>, Fault> {
         if !self.has(name) {
             return Ok(None);
@@ -134,22 +134,22 @@ impl<'a> Words<'a> {
         Ok(Some(self.number()?))
     }
 
-    /// Bits in octal digits.
+    /// Takes bits in octal digits.
     pub fn octal(&mut self) -> Result<u32, Fault> {
         octal_of(self.next("octal digits")?)
     }
 
-    /// Bits in digits of base 16.
+    /// Takes bits in digits of base 16.
     pub fn hex(&mut self) -> Result<u32, Fault> {
         hex_of(self.next("digits of base 16")?)
     }
 
-    /// The byte of two digits of base 16.
+    /// Takes a byte in digits of base 16.
     pub fn byte(&mut self) -> Result<u8, Fault> {
         byte_of(self.next("one byte in base 16")?)
     }
 
-    /// An id in base 16 behind this name, or None where the name isn't next.
+    /// Takes `name` and then an id in base 16. Returns `None` if the next argument isn't `name`.
     pub fn id_named(&mut self, name: &str) -> Result<Option<ObjectId>, Fault> {
         if !self.has(name) {
             return Ok(None);
@@ -158,7 +158,7 @@ impl<'a> Words<'a> {
         Ok(Some(ObjectId::from_bytes(&bytes).ok_or(Fault::Wrong("an id"))?))
     }
 
-    /// The stage of a digit, or None where no word is left.
+    /// Takes a stage, as one digit. Returns `None` if there is no further argument.
     pub fn stage(&mut self) -> Result<Option<Stage>, Fault> {
         match self.optional() {
             Some(word) => Ok(Some(entries::stage_of(word)?)),
@@ -166,12 +166,12 @@ impl<'a> Words<'a> {
         }
     }
 
-    /// The bytes of a text.
+    /// Takes text and returns its bytes.
     pub fn text(&mut self) -> Result<Vec<u8>, Fault> {
         text::text_of(self.alloc(), self.next("a text")?)
     }
 
-    /// The bytes of each word that is left, as text.
+    /// Takes all further arguments as text and returns the bytes of each.
     pub fn texts(&mut self) -> Result<Vec<Vec<u8>>, Fault> {
         let mut texts = Vec::new(self.alloc());
         for word in self.left {
@@ -181,12 +181,12 @@ impl<'a> Words<'a> {
         Ok(texts)
     }
 
-    /// The bytes that a word stands for.
+    /// Takes the pieces of bytes and returns the bytes.
     pub fn bytes(&mut self) -> Result<Vec<u8>, Fault> {
         bytes::bytes_of(self.rt, self.next("bytes")?)
     }
 
-    /// Seconds and nanoseconds, as many of both as there are.
+    /// Takes seconds, a point and nanoseconds, in decimal digits. Neither number has a limit other than its type's.
     pub fn seconds(&mut self) -> Result<(i64, u32), Fault> {
         let Some((seconds, nanoseconds)) = self.next("a time")?.split_once('.') else {
             return Err(Fault::Wrong("seconds, a point and nanoseconds"));
@@ -194,33 +194,34 @@ impl<'a> Words<'a> {
         Ok((number_of(seconds)?, number_of(nanoseconds)?))
     }
 
-    /// The seconds and nanoseconds of a file's time.
+    /// Takes the time of a file, as seconds and nanoseconds.
     pub fn file_time(&mut self) -> Result<FileTime, Fault> {
         let (seconds, nanoseconds) = self.seconds()?;
         FileTime::new(seconds, nanoseconds).ok_or(Fault::Wrong("the time of a file"))
     }
 
-    /// The seconds and nanoseconds of an entry's time.
+    /// Takes the time of an entry, as seconds and nanoseconds.
     pub fn time(&mut self) -> Result<Time, Fault> {
         entries::time_of(self.next("a time")?)
     }
 
-    /// The numbers of a stat.
+    /// Takes the numbers of a stat.
     pub fn stat(&mut self) -> Result<Stat, Fault> {
         entries::stat_of(self.next("the numbers of a stat")?)
     }
 
-    /// What stands between the brackets of a list.
+    /// Takes a list and returns the text between its brackets.
     pub fn list(&mut self) -> Result<&'a str, Fault> {
         list_in(self.next("a list")?).ok_or(Fault::Wrong("a list in square brackets"))
     }
 
-    /// A new state with the listed entries, pushed in their order.
+    /// Takes a list of entries and returns a new state with these entries, pushed in the order of the list.
     pub fn entries(&mut self, kind: Kind) -> Result<State, Fault> {
         entries::state_of(self.alloc(), kind, self.list()?)
     }
 
-    /// The state that the word lists, or that is read of the bytes that it stands for, or the refusal of these.
+    /// Takes a state: a list of entries, or the bytes of an index, which are decoded. The inner error is that of
+    /// decoding.
     pub fn state(&mut self, kind: Kind) -> Result<Result<State, decode::Error>, Fault> {
         if self.left.first().is_some_and(|word| word.starts_with('[')) {
             return Ok(Ok(self.entries(kind)?));
@@ -234,12 +235,12 @@ impl<'a> Words<'a> {
     }
 }
 
-/// What stands between the brackets of a list, where the word is one.
+/// Returns the text between the brackets of a list. Returns `None` if `word` isn't a list.
 fn list_in(word: &str) -> Option<&str> {
     word.strip_prefix('[')?.strip_suffix(']')
 }
 
-/// The items of what stands between the brackets of a list.
+/// Returns the items of a list. `list` is the text between its brackets.
 pub fn items_of<'a>(alloc: Global, list: &'a str) -> Result<Vec<&'a str>, Fault> {
     if list.is_empty() {
         return Ok(Vec::new(alloc));
@@ -247,7 +248,7 @@ pub fn items_of<'a>(alloc: Global, list: &'a str) -> Result<Vec<&'a str>, Fault>
     Ok(list.split(';').collect(alloc)?)
 }
 
-/// The number that decimal digits encode.
+/// Parses a number in decimal digits.
 pub fn number_of<N: FromStr>(word: &str) -> Result<N, Fault>
 where
     N::Err: Drop,
@@ -258,7 +259,7 @@ where
     Ok(number)
 }
 
-/// The bits that octal digits encode.
+/// Parses bits in octal digits.
 pub fn octal_of(word: &str) -> Result<u32, Fault> {
     let Ok(bits) = u32::from_str_radix(word, 8) else {
         return Err(Fault::Wrong("octal digits"));
@@ -266,7 +267,7 @@ pub fn octal_of(word: &str) -> Result<u32, Fault> {
     Ok(bits)
 }
 
-/// The bits that digits of base 16 encode.
+/// Parses bits in digits of base 16.
 pub fn hex_of(word: &str) -> Result<u32, Fault> {
     let Ok(bits) = u32::from_str_radix(word, 16) else {
         return Err(Fault::Wrong("digits of base 16"));
@@ -274,7 +275,8 @@ pub fn hex_of(word: &str) -> Result<u32, Fault> {
     Ok(bits)
 }
 
-/// The bytes that digits of base 16 encode, two each; a word of others isn't what was wanted.
+/// Decodes bytes from digits of base 16, two for each byte. For other digits the error is [`Fault::Wrong`] with
+/// `wanted`.
 fn digits_of(alloc: Global, digits: &[u8], wanted: &'static str) -> Result<Vec<u8>, Fault> {
     match hex::decode(alloc, digits) {
         Ok(bytes) => Ok(bytes),
@@ -283,7 +285,7 @@ fn digits_of(alloc: Global, digits: &[u8], wanted: &'static str) -> Result<Vec<u
     }
 }
 
-/// The byte that digits of base 16 encode.
+/// Parses a byte in digits of base 16.
 fn byte_of(word: &str) -> Result<u8, Fault> {
     let Ok(byte) = u8::try_from(hex_of(word)?) else {
         return Err(Fault::Wrong("one byte in base 16"));
@@ -291,7 +293,7 @@ fn byte_of(word: &str) -> Result<u8, Fault> {
     Ok(byte)
 }
 
-/// The bytes of a text.
+/// Returns the bytes of a text.
 pub fn text_of(alloc: Global, word: &str) -> Result<Vec<u8>, Fault> {
     text::text_of(alloc, word)
 }

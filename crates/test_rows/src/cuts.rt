@@ -1,4 +1,4 @@
-//! What becomes of an index, or of one entry, whose writer fails once, behind each number of bytes that it takes.
+//! What is written of an index, or of one entry, to a writer that fails once, after each possible number of bytes.
 
 ghost use Rattle.std.specs.Prelude.{◌≡◌, false};
 
@@ -11,13 +11,15 @@ use std::io::{self, ErrorKind};
 use std::path::PathBuf;
 use test_row_kit::{Fault, Lines, Words, refusal};
 
-/// How a writer fails once: with a fault of this kind, which the library never gives by itself; or, where the kind is
-/// [`ErrorKind::WriteZero`], by taking nothing, for which the library gives such a fault.
+/// How a writer fails once.
+///
+/// - With [`ErrorKind::WriteZero`], it takes no bytes, and the library returns that error.
+/// - With another value, it returns that error, which the library itself never returns.
 #[derive(Clone, Copy)]
 struct Failure(ErrorKind);
 
 impl Failure {
-    /// What the words say.
+    /// Takes the optional argument `nothing`: [`ErrorKind::WriteZero`]. Without it, returns [`ErrorKind::StorageFull`].
     fn of_words(words: &mut Words<'_>) -> Failure {
         if words.has("nothing") {
             return Failure(ErrorKind::WriteZero);
@@ -25,7 +27,7 @@ impl Failure {
         Failure(ErrorKind::StorageFull)
     }
 
-    /// A writer that has room for so many bytes.
+    /// Returns a writer that takes `room` bytes before it fails.
     fn writer(self, alloc: Global, room: usize) -> Plain<Short>
         ensures { ⟦<Plain<Short> as Out>⟧.failed result ≡ false }
     {
@@ -36,8 +38,9 @@ impl Failure {
         })
     }
 
-    /// Tells in lines of this name for which numbers of bytes a front is taken and the writer's fault is the answer,
-    /// and for which all is.
+    /// Appends lines `name` with the ranges of `room` that have the same result: either all bytes are taken, or a
+    /// prefix is taken and the error is the writer's. If a writer with unlimited room fails, appends the line of that
+    /// error instead.
     fn tell<F: Fn(usize) -> Written>(
         self,
         out: &mut Lines,
@@ -63,8 +66,8 @@ impl Failure {
         Ok(())
     }
 
-    /// What a writer took that had room for so many bytes, and the answer, beside the bytes that one takes that never
-    /// fails.
+    /// Describes what a writer with `room` bytes took and what the call returned. `whole` is what a writer takes that
+    /// never fails.
     fn told(self, written: Written, room: usize, whole: &[u8]) -> &'static str {
         let (plain, answer) = written;
         let is_failed = plain.has_failed();
@@ -83,7 +86,7 @@ impl Failure {
     }
 }
 
-/// Takes so many bytes and then fails once. What comes behind that it would take.
+/// A writer that takes `room` bytes and then fails once. After the failure it takes all bytes.
 #[derive(Drop)]
 struct Short {
     taken: Vec<u8>,
@@ -111,23 +114,23 @@ impl io::Write for Short {
     }
 }
 
-/// What a writer took, and what the call answered that wrote to it.
+/// A writer after a call, and the result of the call that wrote to it.
 type Written = (Plain<Short>, Result<(), Error>);
 
-/// What is written of a state, and how its writer fails.
+/// The options by which a state is written, and how its writer fails.
 #[derive(Clone, Copy)]
 pub struct Cuts {
-    /// `body`: the state alone, without a trailer.
+    /// `body`: only the state is written, without a trailer.
     is_body: bool,
-    /// `null`: a trailer that is null.
+    /// `null`: the trailer is null.
     skip_hash: bool,
-    /// `v4`: version 4.
+    /// `v4`: the version is 4.
     version: VersionChoice,
     failure: Failure,
 }
 
 impl Cuts {
-    /// What the words say.
+    /// Takes the optional arguments `body`, `null`, `v4` and `nothing`, in this order.
     pub fn of_words(words: &mut Words<'_>) -> Cuts {
         Cuts {
             is_body: words.has("body"),
@@ -141,7 +144,7 @@ impl Cuts {
         }
     }
 
-    /// Tells what is written of the state.
+    /// Appends the lines for writing the state.
     pub fn answer(self, out: &mut Lines, state: State) -> Result<(), AllocError> {
         let alloc = out.alloc();
         let file = File::from_state(state, PathBuf::new(alloc));
@@ -149,7 +152,7 @@ impl Cuts {
             .tell(out, "write_to", |room| self.written(alloc, &file, room))
     }
 
-    /// What a writer takes that has room for so many bytes, and the answer.
+    /// Writes the file to a writer that takes `room` bytes. Returns the writer and the result.
     fn written(self, alloc: Global, file: &File, room: usize) -> Written {
         let options = Options {
             skip_hash: self.skip_hash,
@@ -167,7 +170,8 @@ impl Cuts {
     }
 }
 
-/// Tells what is written of one entry: as versions 2 and 3 have it, and as version 4 does behind the entry before it.
+/// `entry-cuts`: appends the lines for writing one entry, in the form of versions 2 and 3, and in the form of version 4
+/// after the entry before it.
 pub fn entry(out: &mut Lines, state: &State, words: &mut Words<'_>) -> Result<(), Fault> {
     let place: usize = words.number()?;
     if place >= state.entries().len() {

@@ -1,31 +1,31 @@
-//! The rows about the values of an entry: flags, stages, modes, times and paths.
+//! Rows about the values of an entry: flags, stages, modes, times and paths.
 
 use gix_index::entry::{FileTime, Flags, Mode, at_rest};
 use gix_index::{BitFlags as _, Entry};
 use test_row_kit::show::{FileSeconds, OrNone, sign_of, stage_of, yes};
 use test_row_kit::{Fault, Lines, Words};
 
-/// Which value is made of the words.
+/// The calls about values of an entry.
 #[derive(Clone, Copy)]
 pub enum Call {
-    /// `flags`: flags in memory, and what is stored of them.
+    /// `flags`: flags in memory, and what a file stores of them.
     Flags,
-    /// `word`: the first word of flags in a file.
+    /// `word`: the first 16 bits of flags in a file.
     Word,
-    /// `second-word`: the second word of flags in a file.
+    /// `second-word`: the second 16 bits of flags in a file.
     SecondWord,
-    /// `stage`
+    /// `stage`: a stage, and the flags that have it.
     Stage,
-    /// `mode`
+    /// `mode`: the bits of a mode, and what a file stores of them.
     Mode,
-    /// `time`
+    /// `time`: the time of a file.
     Time,
-    /// `compare`
+    /// `compare`: the order of two paths.
     Compare,
 }
 
 impl Call {
-    /// The call of this name.
+    /// Returns the call of this name.
     pub fn named(word: &str) -> Option<Call> {
         match word {
             "flags" => Some(Call::Flags),
@@ -39,7 +39,7 @@ impl Call {
         }
     }
 
-    /// Tells what the call answers with the words behind it.
+    /// Appends the lines of the call's answer. `words` are the arguments after the call.
     pub fn answer(self, words: &mut Words<'_>, out: &mut Lines) -> Result<(), Fault> {
         match self {
             Call::Flags => flags(out, words.hex()?),
@@ -73,7 +73,7 @@ fn flags(out: &mut Lines, bits: u32) {
     writeln!(out, "stored flags: {:08x}", flags.to_stored().bits());
 }
 
-/// A word of 16 bits.
+/// Takes 16 bits in digits of base 16.
 fn word_of(words: &mut Words<'_>) -> Result<u16, Fault> {
     let Ok(word) = u16::try_from(words.hex()?) else {
         return Err(Fault::Wrong("16 bits"));

@@ -1,4 +1,4 @@
-//! The rows about the content of one extension.
+//! Rows about the content of one extension.
 
 use crate::ranges::ranges;
 use crate::show::{extension, untracked};
@@ -12,35 +12,35 @@ use std::alloc::Global;
 use test_row_kit::show::{Bytes, OrNone, Text};
 use test_row_kit::{Fault, Lines, Words, refusal};
 
-/// Which reader is called.
+/// The calls that read extensions.
 #[derive(Clone, Copy)]
 pub enum Call {
-    /// `tree`
+    /// `tree`: a cache tree extension (`TREE`).
     Tree,
-    /// `resolve-undo`
+    /// `resolve-undo`: a resolve-undo extension (`REUC`).
     ResolveUndo,
-    /// `untracked`
+    /// `untracked`: an untracked cache extension (`UNTR`).
     Untracked,
-    /// `monitor`
+    /// `monitor`: a file system monitor extension (`FSMN`).
     Monitor,
-    /// `offsets`
+    /// `offsets`: an offset table (`IEOT`).
     Offsets,
-    /// `first-offsets`: the first offset table among extensions before a trailer.
+    /// `first-offsets`: the first offset table among extensions that a trailer follows.
     FirstOffsets,
-    /// `marker`: where the end marker of a whole file says that the entries end.
+    /// `marker`: the offset at which the entries of a complete file end, according to its end marker (`EOIE`).
     Marker,
-    /// `link`
+    /// `link`: a link to a shared index (`link`).
     Link,
-    /// `bitmap`
+    /// `bitmap`: a bitmap.
     Bitmap,
-    /// `walk`: the extensions in turn.
+    /// `walk`: the extensions one by one.
     Walk,
-    /// `walk-file`: the extensions before a trailer.
+    /// `walk-file`: the extensions before a trailer, one by one.
     WalkFile,
 }
 
 impl Call {
-    /// The call of this name.
+    /// Returns the call of this name.
     pub fn named(word: &str) -> Option<Call> {
         match word {
             "tree" => Some(Call::Tree),
@@ -58,7 +58,7 @@ impl Call {
         }
     }
 
-    /// Tells what the call answers with the words behind it.
+    /// Appends the lines of the call's answer. `words` are the arguments after the call.
     pub fn answer(self, words: &mut Words<'_>, out: &mut Lines) -> Result<(), Fault> {
         match self {
             Call::Monitor | Call::Offsets | Call::Walk | Call::Bitmap => {
@@ -73,7 +73,8 @@ impl Call {
         }
     }
 
-    /// The same of these bytes, without a limit. A kind of hash that the call takes none of counts for nothing.
+    /// Appends the lines of the call's answer to these bytes, without a memory limit. A call that takes no hash
+    /// algorithm ignores `kind`.
     pub fn answer_content(self, kind: Kind, bytes: &[u8], out: &mut Lines) -> Result<(), Fault> {
         match self {
             Call::Monitor | Call::Offsets | Call::Walk | Call::Bitmap => {
@@ -83,7 +84,7 @@ impl Call {
         }
     }
 
-    /// The same of a call that takes bytes alone.
+    /// Appends the lines of a call that takes only bytes.
     fn answer_bytes(self, bytes: &[u8], out: &mut Lines) -> Result<(), Fault> {
         match self {
             Call::Monitor => monitor(out, bytes)?,
@@ -97,7 +98,7 @@ impl Call {
         Ok(())
     }
 
-    /// The same of a call that takes a kind of hash before the bytes.
+    /// Appends the lines of a call that takes a hash algorithm before the bytes.
     fn answer_kind(
         self,
         kind: Kind,
@@ -124,7 +125,7 @@ impl Call {
         Ok(())
     }
 
-    /// The same of a call that tells a place, a link or a walk.
+    /// Appends the lines of a call that takes a hash algorithm and no limit.
     fn answer_place(self, kind: Kind, bytes: &[u8], out: &mut Lines) -> Result<(), Fault> {
         let alloc = out.alloc();
         match self {
@@ -146,7 +147,7 @@ impl Call {
     }
 }
 
-/// The names of the lines that are told of an extension's content.
+/// The names of the lines that `content-fronts` prints.
 const CONTENT_NAMES: [&str; 8] = [
     "fault",
     "tree",
@@ -158,7 +159,7 @@ const CONTENT_NAMES: [&str; 8] = [
     "num_bits",
 ];
 
-/// `content-fronts`: what a reader answers to each prefix of an extension's content.
+/// `content-fronts`: appends what a reader answers to each prefix of an extension's content.
 pub fn prefixes(words: &mut Words<'_>, out: &mut Lines) -> Result<(), Fault> {
     let reader = words.next("a reader")?;
     let reader = Call::named(reader).ok_or(Fault::Wrong("a reader"))?;
@@ -170,7 +171,7 @@ pub fn prefixes(words: &mut Words<'_>, out: &mut Lines) -> Result<(), Fault> {
     Ok(())
 }
 
-/// What the reader answers to each prefix, from no bytes to all of them.
+/// Returns the lines that the reader answers to each prefix, from no bytes to all of them.
 fn texts_of(alloc: Global, reader: Call, kind: Kind, bytes: &[u8]) -> Result<Vec<String>, Fault> {
     let mut texts = Vec::new(alloc);
     for len in 0..=bytes.len() {
@@ -197,7 +198,7 @@ fn bitmap(out: &mut Lines, bytes: &[u8]) {
     }
 }
 
-/// The extensions of a walk, and how many bytes they take.
+/// Appends a line for each extension that the iterator returns, and the number of bytes that they take.
 fn walk(out: &mut Lines, mut extensions: Iter<'_>) {
     let mut place = 0;
     while let Some(item) = extensions.next() {

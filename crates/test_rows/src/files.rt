@@ -1,4 +1,4 @@
-//! The rows about an index in a file, which is read as a caller of the library reads it.
+//! Rows about an index in a file, which is read as a caller of the library reads it.
 
 use crate::show;
 use gix_index::entry::FileTime;
@@ -10,8 +10,8 @@ use std::path::PathBuf;
 use test_row_kit::show::Text;
 use test_row_kit::{Fault, Lines, Words, refusal};
 
-/// `at`: what is read of the file at a path, with the shared index that it links to. With `or-default`, of a path with
-/// no file too.
+/// `at`: reads the file at a path, with the shared index that it links to, and appends the lines of its state. With
+/// `or-default`, the path may have no file.
 pub fn at(words: &mut Words<'_>, out: &mut Lines) -> Result<(), Fault> {
     let kind = words.kind()?;
     let path = PathBuf::from_str(out.alloc(), words.next("a file")?)?;
@@ -40,7 +40,7 @@ fn read(
     File::at(rt, alloc, path, kind, false, time, options)
 }
 
-/// The refusal, with the name of a file that can't be read.
+/// Appends the line of an error. If a file can't be read, the line has its name.
 fn refused(out: &mut Lines, fault: &Error) {
     match fault {
         Error::Io(fault) => {

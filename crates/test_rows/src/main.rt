@@ -1,8 +1,7 @@
-//! `index-rows`: what the library answers to each row of a table about indexes, extensions, numbers and an entry's
-//! values.
+//! `index-rows`: answers a table of rows about indexes, extensions, numbers and the values of an entry.
 //!
-//! The table comes on standard input. `tests/model/DIALECT.md` says how a row is written and which lines answer it. A
-//! row that can't be understood ends the program with its number on standard error and status 1.
+//! The table is standard input. `tests/model/DIALECT.md` describes how a row is written and which lines answer it. If a
+//! row can't be understood, the program prints the number of its line to standard error and ends with status 1.
 #![tactic(auto)]
 
 mod cuts;
@@ -19,7 +18,7 @@ mod states;
 use std::process::ExitCode;
 use test_row_kit::{Answer, Fault, Lines, Words, rows};
 
-/// The rows of this program. A new kind of row is a variant of one of the calls.
+/// The rows of this program. A new row is a variant of one of the enums `Call`.
 struct Rows;
 
 impl Answer for Rows {

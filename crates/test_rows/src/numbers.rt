@@ -1,4 +1,4 @@
-//! The rows about numbers, pieces and digests of bytes, and about how much a file can hold.
+//! Rows about numbers, pieces and digests of bytes, and about the number of entries that a file can hold.
 
 use gix_index::decode::entries::{
     estimate_path_storage_requirements_in_bytes, max_entries_possible,
@@ -12,35 +12,35 @@ use std::fmt::Display;
 use test_row_kit::show::{Bytes, kind_of, yes};
 use test_row_kit::{Fault, Lines, Words};
 
-/// What is asked about bytes.
+/// The calls about bytes.
 #[derive(Clone, Copy)]
 pub enum Call {
-    /// `offset`: the offset number at the front.
+    /// `offset`: the varint at the start of the bytes.
     Offset,
-    /// `offset-of`: the bytes of an offset number.
+    /// `offset-of`: the bytes of a varint.
     OffsetOf,
-    /// `u32`: the number of four bytes at the front.
+    /// `u32`: the number in the first four bytes.
     Four,
-    /// `u64`: the number of eight bytes at the front.
+    /// `u64`: the number in the first eight bytes.
     Eight,
-    /// `whole`: the number that two or four bytes are.
+    /// `whole`: the number that exactly two or four bytes encode.
     Whole,
-    /// `split`: what stands before the first such byte, and behind it.
+    /// `split`: the bytes before the first occurrence of a byte, and those after it.
     Split,
-    /// `digest`
+    /// `digest`: the digest of bytes.
     Digest,
-    /// `id`: the id of these bytes.
+    /// `id`: the id that the bytes are.
     Id,
-    /// `verify`: an id compared with one that is expected.
+    /// `verify`: an id compared with the expected one.
     Verify,
-    /// `entries`: how many entries a file of that length can hold.
+    /// `entries`: the largest number of entries in a file of a given length.
     Entries,
-    /// `paths`: how many bytes their paths can take.
+    /// `paths`: an estimate of the bytes that the paths of the entries take.
     Paths,
 }
 
 impl Call {
-    /// The call of this name.
+    /// Returns the call of this name.
     pub fn named(word: &str) -> Option<Call> {
         match word {
             "offset" => Some(Call::Offset),
@@ -58,7 +58,7 @@ impl Call {
         }
     }
 
-    /// Tells what the call answers with the words behind it.
+    /// Appends the lines of the call's answer. `words` are the arguments after the call.
     pub fn answer(self, words: &mut Words<'_>, out: &mut Lines) -> Result<(), Fault> {
         match self {
             Call::Digest => {
@@ -80,7 +80,7 @@ impl Call {
         Ok(())
     }
 
-    /// The answer of a call whose first word is bytes.
+    /// Appends the lines of a call whose first argument is bytes.
     fn answer_bytes(
         self,
         bytes: &[u8],

@@ -1,4 +1,4 @@
-//! What is read of each prefix of bytes: for each name of a line, the lengths at which it has the same value.
+//! What is read from each prefix of bytes: for each line's name, the lengths for which its value is equal.
 
 use crate::ranges::ranges;
 use crate::reading::{Reading, read};
@@ -7,7 +7,7 @@ use gix_index::hash::Kind;
 use std::alloc::{AllocError, Global};
 use test_row_kit::Lines;
 
-/// The names of the lines that are told.
+/// The names of the lines that are printed.
 const NAMES: [&str; 8] = [
     "fault",
     "checksum",
@@ -19,7 +19,7 @@ const NAMES: [&str; 8] = [
     "entries",
 ];
 
-/// Tells of each prefix, from no bytes to all of them.
+/// Appends the lines for the prefixes of `bytes`, from no bytes to all of them.
 pub fn prefixes(
     out: &mut Lines,
     kind: Kind,
@@ -33,7 +33,7 @@ pub fn prefixes(
     Ok(())
 }
 
-/// What is read of each prefix, from no bytes to all of them.
+/// Returns the lines for each prefix of `bytes`, from no bytes to all of them.
 fn texts_of(
     alloc: Global,
     kind: Kind,
@@ -47,7 +47,7 @@ fn texts_of(
     Ok(texts)
 }
 
-/// The lines of what is read of one prefix.
+/// Returns the lines for one prefix.
 fn text_of(
     alloc: Global,
     kind: Kind,

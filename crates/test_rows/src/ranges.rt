@@ -1,8 +1,9 @@
-//! Runs of texts that have the same value in a line.
+//! Runs of texts whose lines of a name have equal values.
 
 use test_row_kit::Lines;
 
-/// Each longest range of places in the list, counted from 0, at which the name has one value.
+/// Appends a line for each longest range of indices into `texts` for which the line `name` has one value. Texts without
+/// this line are left out.
 pub fn ranges(out: &mut Lines, texts: &[String], name: &str) {
     let mut first = 0;
     for run in texts.chunk_by(|text, next| value_in(text, name) == value_in(next, name)) {
@@ -15,7 +16,7 @@ pub fn ranges(out: &mut Lines, texts: &[String], name: &str) {
     }
 }
 
-/// The value in the line of this name.
+/// Returns the value in the first line with this name.
 fn value_in<'a>(text: &'a str, name: &str) -> Option<&'a str> {
     for line in text.lines() {
         if let Some((found, value)) = line.split_once(": ") {

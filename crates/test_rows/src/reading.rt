@@ -1,4 +1,4 @@
-//! Reading bytes as a state, or as a file.
+//! Reads bytes as a state or as a file.
 
 use gix_index::entry::FileTime;
 use gix_index::hash::{Kind, ObjectId};
@@ -7,14 +7,15 @@ use std::alloc::AllocError;
 use std::path::PathBuf;
 use test_row_kit::{Lines, refusal};
 
-/// How bytes are read: as a state, or as a file, whose digest is compared first unless that is to be skipped.
+/// How bytes are read: as a state, or as a file. For a file the digest is compared first, unless `skip_hash` is set.
 #[derive(Clone, Copy)]
 pub enum Reading {
     State(decode::Options),
     File { skip_hash: bool },
 }
 
-/// The state that is read of the bytes and the id at their end, or None behind the line of a refusal.
+/// Decodes the bytes. Returns the state and the id at the end of the bytes, or `None` after it has appended the line of
+/// an error.
 pub fn read(
     out: &mut Lines,
     kind: Kind,

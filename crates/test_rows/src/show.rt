@@ -1,4 +1,4 @@
-//! The values that rows answer, in lines of text.
+//! Formats the values of answers as lines of text.
 
 pub mod extension;
 pub mod state;

@@ -1,4 +1,4 @@
-//! The rows about a whole index: read and written.
+//! Rows about a complete index, which is read or written.
 
 use crate::cuts::Cuts;
 use crate::reading::{Reading, read};
@@ -10,33 +10,33 @@ use std::path::PathBuf;
 use test_row_kit::show::{Bytes, version_of, yes};
 use test_row_kit::{Fault, Lines, Words, refusal};
 
-/// What is asked about an index.
+/// The calls about an index.
 #[derive(Clone, Copy)]
 pub enum Call {
-    /// `state`: what is read of bytes.
+    /// `state`: decodes bytes.
     State,
-    /// `file`: the same of a file whose digest is compared first.
+    /// `file`: decodes bytes as a file, and compares the digest first.
     File,
-    /// `fronts`: what is read of each front of bytes.
+    /// `fronts`: decodes each prefix of bytes.
     Fronts,
-    /// `file-fronts`: the same of files whose digest is compared first.
+    /// `file-fronts`: decodes each prefix of bytes as a file, and compares the digest first.
     FileFronts,
-    /// `entry`: the bytes of one entry alone.
+    /// `entry`: writes one entry.
     Entry,
-    /// `body`: what is written of a state.
+    /// `body`: writes a state without a trailer.
     Body,
-    /// `write`: the file that is written.
+    /// `write`: writes a file.
     Write,
-    /// `copy`: the state's copy.
+    /// `copy`: clones a state.
     Copy,
-    /// `cuts`: what is written to a writer that fails.
+    /// `cuts`: writes a state to a writer that fails.
     Cuts,
-    /// `entry-cuts`: what of one entry is.
+    /// `entry-cuts`: writes one entry to a writer that fails.
     EntryCuts,
 }
 
 impl Call {
-    /// The call of this name.
+    /// Returns the call of this name.
     pub fn named(word: &str) -> Option<Call> {
         match word {
             "state" => Some(Call::State),
@@ -53,7 +53,7 @@ impl Call {
         }
     }
 
-    /// Tells what the call answers with the words behind it.
+    /// Appends the lines of the call's answer. `words` are the arguments after the call.
     pub fn answer(self, words: &mut Words<'_>, out: &mut Lines) -> Result<(), Fault> {
         let kind = words.kind()?;
         match self {
@@ -71,7 +71,7 @@ impl Call {
         }
     }
 
-    /// The same of a call about bytes.
+    /// Appends the lines of a call that decodes bytes.
     fn answer_bytes(
         self,
         kind: Kind,
@@ -100,7 +100,7 @@ impl Call {
         Ok(())
     }
 
-    /// The same of a call about a state.
+    /// Appends the lines of a call about a state.
     fn answer_state(
         self,
         state: State,
@@ -119,7 +119,7 @@ impl Call {
     }
 }
 
-/// What the state's copy holds.
+/// Appends the lines of a clone of the state.
 fn copy(out: &mut Lines, state: &State) {
     match state.clone() {
         Ok(state) => show::state::state(out, &state, None),

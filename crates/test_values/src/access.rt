@@ -1,4 +1,4 @@
-//! States that are made, and entries that are pushed and changed.
+//! Tests of new states, and of entries that are pushed and changed.
 
 use gix_index::entry::{FileTime, Flags, Mode, Stage, Stat};
 use gix_index::hash::{Kind, ObjectId};

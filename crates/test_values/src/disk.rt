@@ -1,4 +1,4 @@
-//! A file that is looked at again after the index was written to it, and one whose lock another holds.
+//! Tests of a file that is verified after the index was written to it, and of one whose lock is held.
 
 use gix_index::entry::{FileTime, Flags, Mode, Stage, Stat};
 use gix_index::file::{verify, write};
@@ -10,7 +10,7 @@ use std::fs;
 use std::path::PathBuf;
 use std::test::Fail;
 
-/// An index with one entry, which belongs to a file.
+/// Returns an index with one entry for the file at `path`.
 fn file_of(alloc: Global, path: &str) -> Result<File, AllocError> {
     let mut state = State::new(alloc, Kind::Sha1, FileTime::EPOCH);
     let flags = Flags::from_stage(Stage::Unconflicted);
@@ -19,7 +19,7 @@ fn file_of(alloc: Global, path: &str) -> Result<File, AllocError> {
     Ok(File::from_state(state, PathBuf::from_str(alloc, path)?))
 }
 
-/// What is told of an index that is written to its file.
+/// Writes an index to its file and describes the result.
 fn write_told(rt: &HostRuntime, file: &mut File, skip_hash: bool) -> &'static str {
     let options = Options {
         skip_hash,
@@ -35,7 +35,7 @@ fn write_told(rt: &HostRuntime, file: &mut File, skip_hash: bool) -> &'static st
     }
 }
 
-/// Whether the bytes in a file of these bytes are those of the checksum.
+/// Compares the bytes in the index's file with its checksum and describes the result.
 fn verify_told(rt: &HostRuntime, file: &File) -> &'static str {
     match file.verify_integrity(rt, rt.alloc()) {
         Ok(()) => "intact",

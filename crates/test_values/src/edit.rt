@@ -1,4 +1,4 @@
-//! Entries that are put in order by a closure.
+//! Tests of entries that are sorted by a closure.
 
 use gix_index::State;
 use gix_index::entry::{FileTime, Flags, Mode, Stage, Stat};
@@ -6,7 +6,7 @@ use gix_index::hash::{Kind, ObjectId};
 use std::cmp::Ordering;
 use std::test::Fail;
 
-/// A new state with the entries `b`, `a` and `a`, whose ids are of the bytes 1, 2 and 3.
+/// Returns a new state with the entries `b`, `a` and `a`, whose ids are of the bytes 1, 2 and 3.
 fn three_entries(rt: &HostRuntime) -> Result<State, Fail> {
     let mut state = State::new(rt.alloc(), Kind::Sha1, FileTime::EPOCH);
     let flags = Flags::from_stage(Stage::Unconflicted);
@@ -17,7 +17,7 @@ fn three_entries(rt: &HostRuntime) -> Result<State, Fail> {
     Ok(state)
 }
 
-/// Of which byte the entries' ids are, in the order of the entries.
+/// Returns the first byte of each entry's id, in the order of the entries.
 fn bytes_of_ids(rt: &HostRuntime, state: &State) -> Result<Vec<u8>, Fail> {
     let mut bytes = Vec::new(rt.alloc());
     for entry in state.entries() {

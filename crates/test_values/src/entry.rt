@@ -1,4 +1,4 @@
-//! The sets of all flags, and what stats are compared by where nothing is said.
+//! Tests of the sets of all flags, and of how stats are compared by default.
 
 use gix_index::BitFlags as _;
 use gix_index::entry::{FileTime, Flags, Stat, at_rest, stat};
@@ -11,7 +11,7 @@ fn all_flags(rt: HostRuntime) {
     assert_eq!(rt; at_rest::FlagsExtended::all().to_flags(), Some(both));
 }
 
-/// Nanoseconds don't count by default.
+/// Nanoseconds are not compared by default.
 #[test]
 fn a_stat_of_the_second_of_the_index_is_racy(rt: HostRuntime) {
     let mut seen = Stat::default();

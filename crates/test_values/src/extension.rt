@@ -1,4 +1,4 @@
-//! Extensions of a state that are changed, removed and copied.
+//! Tests of extensions of a state that are changed, removed and cloned.
 
 use gix_index::State;
 use gix_index::decode::Options;
@@ -8,7 +8,8 @@ use gix_index::hash::Kind;
 use std::alloc::Global;
 use std::test::Fail;
 
-/// No entry, a cached tree that is invalid, a path with resolve-undo, a file system monitor, and a null trailer.
+/// An index with no entry, an invalid cache tree extension (TREE), a path with resolve-undo, a file system monitor, and
+/// a null trailer.
 const EXTENDED: &[u8] =
     b"DIRC\0\0\0\x02\0\0\0\0TREE\0\0\0\x06\0-1 0\nREUC\0\0\0\x08a\0\x30\0\x30\0\x30\0\
 FSMN\0\0\0\x16\0\0\0\x02t\0\0\0\0\x0c\0\0\0\0\0\0\0\0\0\0\0\0\0\0\0\0\0\0\0\0\0\0\0\0\0\0\0\0\0\0\0\0";
@@ -19,7 +20,7 @@ fn extended(alloc: Global) -> Result<State, Fail> {
     Ok(state)
 }
 
-/// The tree's number of entries, how many paths have resolve-undo, and whether there is a monitor.
+/// The tree's number of entries, the number of paths with resolve-undo, and whether there is a monitor.
 type Found = (Option<Option<u32>>, Option<usize>, bool);
 
 fn found_in(state: &State) -> Found {
@@ -48,7 +49,8 @@ fn resolve_undo_is_removed(rt: HostRuntime) -> Result<(), Fail> {
     Ok(())
 }
 
-/// Whether the tree of so many nodes, each but the last with the next as its only child, equals its copy.
+/// Returns whether a tree of `nodes` nodes equals its clone. Each node other than the last has the next one as its only
+/// child.
 fn equals_its_copy(alloc: Global, nodes: usize) -> Result<bool, Fail> {
     let mut bytes = Vec::new(alloc);
     for _ in 1..nodes {

@@ -1,11 +1,12 @@
-//! Locking, writing and reading over a folder in memory, of which each step fails in turn.
+//! Tests of locking, writing and reading in a directory in memory. Each step fails in turn.
 
+use file_memory::{Fault, Kept, Shelf, Steps};
 use gix_index::entry::{FileTime, Flags, Mode, Stat};
-use gix_index::file::{init, lock, write};
+use gix_index::file::lock::{Durable, IfMissing};
+use gix_index::file::{ReadOptions, init, lock, write};
 use gix_index::hash::{Kind, ObjectId};
 use gix_index::write::Options;
 use gix_index::{BitFlags as _, File, State, decode};
-use index_shelf::{Fault, Kept, Shelf, Steps};
 use std::alloc::{AllocError, Global};
 use std::cell::Cell;
 use std::path::{Path, PathBuf};
@@ -14,10 +15,10 @@ use std::test::Fail;
 /// The flags of the entries before a change.
 const OLD: Flags = Flags::INTENT_TO_ADD;
 
-/// The flags of the entries behind it.
+/// The flags of the entries after the change.
 const NEW: Flags = Flags::ASSUME_VALID;
 
-/// A split index without entries, with the link to the shared index that is named by twenty bytes 1, of which nothing
+/// A split index without entries. Its link has a shared index whose checksum is twenty bytes 1. No entry of that index
 /// is deleted or replaced.
 const SPLIT: &[u8] = b"DIRC\0\0\0\x02\0\0\0\0link\0\0\0\x3c\
     \x01\x01\x01\x01\x01\x01\x01\x01\x01\x01\x01\x01\x01\x01\x01\x01\x01\x01\x01\x01\
@@ -25,54 +26,54 @@ const SPLIT: &[u8] = b"DIRC\0\0\0\x02\0\0\0\0link\0\0\0\x3c\
     \0\0\0\0\0\0\0\x01\0\0\0\0\0\0\0\0\0\0\0\0\
     \0\0\0\0\0\0\0\0\0\0\0\0\0\0\0\0\0\0\0\0";
 
-/// The name of that shared index.
+/// The file name of the shared index of [`SPLIT`].
 const SHARED: &str = "sharedindex.0101010101010101010101010101010101010101";
 
-/// What is tried.
+/// The calls that are tested.
 #[derive(Clone, Copy)]
 enum Call {
     /// The index is locked, changed and committed.
     Commit,
-    /// It is locked, changed and released.
+    /// The index is locked, changed and released.
     Release,
-    /// Another is written in its place.
+    /// Another index is written to the file.
     Write,
 }
 
-/// What is told of a call.
+/// The result that a call reports.
 #[derive(Clone, Copy, Debug, PartialEq, Eq)]
 enum Told {
-    /// The index is replaced.
+    /// The index was replaced.
     Replaced,
-    /// It isn't.
+    /// The index wasn't replaced, for a reason other than those below.
     Kept,
-    /// It isn't, as its lock can't be made.
+    /// The index wasn't replaced, because its lock can't be created.
     NoLock,
-    /// It isn't, as its lock can't be written.
+    /// The index wasn't replaced, because its lock can't be written.
     NoBytes,
-    /// It isn't, as its lock can't take its place.
+    /// The index wasn't replaced, because its lock can't be renamed to it.
     NoPlace,
 }
 
-/// How often a call was tried with a fault, and what it left.
+/// How often each result occurred, over all tries of a call with an error.
 #[derive(Clone, Copy, Debug, Default, PartialEq, Eq)]
 struct Tally {
     /// How often the index wasn't replaced.
     kept: u32,
-    /// How often it was told that its lock can't be made.
+    /// How often the result was that the lock can't be created.
     unmade: u32,
-    /// How often it was told that its lock can't be written.
+    /// How often the result was that the lock can't be written.
     unwritten: u32,
-    /// How often it was told that its lock can't take its place.
+    /// How often the result was that the lock can't be renamed.
     unmoved: u32,
-    /// How often a lock stayed.
+    /// How often a lock was left.
     locks: u32,
-    /// How often the index was neither as before, where it wasn't replaced, nor else as it was to become.
+    /// How often the index was wrong: it wasn't replaced and isn't as before, or it was replaced and isn't the new one.
     torn: u32,
 }
 
 impl Tally {
-    /// Counts what one try left.
+    /// Counts the result of one try.
     fn count(&mut self, told: Told, is_locked: bool, is_torn: bool) {
         let place = match told {
             Told::NoLock => &mut self.unmade,
@@ -88,12 +89,22 @@ impl Tally {
     }
 }
 
-/// A time of whole seconds.
+/// Returns the options by which the tests read an index.
+fn reading() -> ReadOptions {
+    ReadOptions {
+        object_hash: Kind::Sha1,
+        skip_hash: false,
+        timestamp: at(1),
+        options: decode::Options::default(),
+    }
+}
+
+/// Returns the time with these seconds.
 fn at(seconds: i64) -> FileTime {
     FileTime::new(seconds, 0).unwrap_or(FileTime::EPOCH)
 }
 
-/// An index with two entries, which belongs to the file `index`.
+/// Returns an index with two entries for the file `index`.
 fn file_of(alloc: Global, flags: Flags) -> Result<File, AllocError> {
     let mut state = State::new(alloc, Kind::Sha1, FileTime::EPOCH);
     let id = ObjectId::Sha1([1; 20]);
@@ -102,7 +113,7 @@ fn file_of(alloc: Global, flags: Flags) -> Result<File, AllocError> {
     Ok(File::from_state(state, PathBuf::from_str(alloc, "index")?))
 }
 
-/// What is told of an index with these flags that is written to its file.
+/// Writes an index with these flags to its file and returns the result.
 fn write_told(shelf: &mut Shelf<'_>, alloc: Global, flags: Flags, options: Options) -> Told {
     let Ok(mut file) = file_of(alloc, flags) else {
         return Told::Kept;
@@ -116,13 +127,12 @@ fn write_told(shelf: &mut Shelf<'_>, alloc: Global, flags: Flags, options: Optio
     }
 }
 
-/// What is told of the index, which is locked, changed, and committed or released.
+/// Locks and changes the index, then commits it if `is_wanted` and releases it otherwise. Returns the result.
 fn commit_told(shelf: &mut Shelf<'_>, alloc: Global, is_wanted: bool) -> Told {
     let Ok(path) = PathBuf::from_str(alloc, "index") else {
         return Told::Kept;
     };
-    let options = decode::Options::default();
-    let Ok(mut locked) = File::lock(shelf, alloc, path, Kind::Sha1, false, options, false) else {
+    let Ok(mut locked) = File::lock(shelf, alloc, path, reading(), IfMissing::Fail) else {
         return Told::Kept;
     };
     locked.file.set_timestamp(at(3));
@@ -133,13 +143,13 @@ fn commit_told(shelf: &mut Shelf<'_>, alloc: Global, is_wanted: bool) -> Told {
         locked.release(shelf);
         return Told::Kept;
     }
-    match locked.commit(shelf, alloc, Options::default(), true) {
+    match locked.commit(shelf, alloc, Options::default(), Durable::Yes) {
         Ok(_) => Told::Replaced,
         Err(_) => Told::Kept,
     }
 }
 
-/// What is told of a call.
+/// Makes a call and returns its result.
 fn call_told(call: Call, shelf: &mut Shelf<'_>, alloc: Global) -> Told {
     match call {
         Call::Commit => commit_told(shelf, alloc, true),
@@ -148,7 +158,7 @@ fn call_told(call: Call, shelf: &mut Shelf<'_>, alloc: Global) -> Told {
     }
 }
 
-/// A shelf with these bytes as an index of the first second, on which files are written in the second.
+/// Returns a shelf whose file `index` has these bytes and the time 1. Files that are written to it have the time 2.
 fn shelf_with<'a>(alloc: Global, steps: Steps<'a>, bytes: &[u8]) -> Result<Shelf<'a>, AllocError> {
     let mut shelf = Shelf::new(alloc, at(2), steps);
     let bytes = bytes.to_vec(alloc)?;
@@ -156,7 +166,7 @@ fn shelf_with<'a>(alloc: Global, steps: Steps<'a>, bytes: &[u8]) -> Result<Shelf
     Ok(shelf)
 }
 
-/// A file of the first second with these bytes, of which it isn't known that they are on the disk.
+/// Returns a file with these bytes and the time 1 that isn't known to be durable.
 fn kept(bytes: Vec<u8>) -> Kept {
     Kept {
         bytes,
@@ -165,7 +175,7 @@ fn kept(bytes: Vec<u8>) -> Kept {
     }
 }
 
-/// Whether the index on a shelf has these bytes and this time.
+/// Returns whether the index on a shelf has these bytes and this time.
 fn is_as(shelf: &Shelf<'_>, bytes: &[u8], time: FileTime) -> bool {
     match shelf.file(Path::new("index")) {
         Some(kept) => kept.bytes.as_slice() == bytes && kept.time == time,
@@ -173,7 +183,7 @@ fn is_as(shelf: &Shelf<'_>, bytes: &[u8], time: FileTime) -> bool {
     }
 }
 
-/// Calls with a fault at each step, or since each, until no step is left for it.
+/// Makes the call with an error at each step, or from each step on if `lasts`, until the call has fewer steps.
 fn tried(
     alloc: Global,
     call: Call,
@@ -209,7 +219,7 @@ fn tried(
     Ok(tally)
 }
 
-/// The bytes of an index with these flags.
+/// Returns the bytes of an index with these flags.
 fn bytes_of(alloc: Global, flags: Flags, options: Options) -> Result<Vec<u8>, AllocError> {
     let taken = Cell::new(0);
     let steps = Steps {
@@ -224,21 +234,21 @@ fn bytes_of(alloc: Global, flags: Flags, options: Options) -> Result<Vec<u8>, Al
     }
 }
 
-/// How often reading a split index was refused.
+/// How often reading a split index failed.
 #[derive(Clone, Copy, Debug, Default, PartialEq, Eq)]
 struct Refusals {
-    /// How often a fault named its own file.
+    /// How often the error named the file of the split index.
     own: u32,
-    /// How often one named the shared index.
+    /// How often the error named the shared index.
     shared: u32,
-    /// How often it was refused otherwise.
+    /// How often reading failed with another error.
     others: u32,
-    /// How many entries it had in the end.
+    /// The number of entries that were read in the end.
     entries: usize,
 }
 
 impl Refusals {
-    /// Counts one more.
+    /// Counts one more error.
     fn count(&mut self, error: &init::Error) {
         let count = match error {
             init::Error::Io(fault) if fault.path.as_path().as_str() == "index" => &mut self.own,
@@ -249,10 +259,9 @@ impl Refusals {
     }
 }
 
-/// Reads a split index with a fault at each step, until it is read.
+/// Reads a split index with an error at each step, until reading succeeds.
 fn read_split(alloc: Global, shared: &[u8]) -> Result<Refusals, AllocError> {
     let mut refusals = Refusals::default();
-    let options = decode::Options::default();
     for step in 1..100 {
         let taken = Cell::new(0);
         let steps = Steps {
@@ -263,7 +272,7 @@ fn read_split(alloc: Global, shared: &[u8]) -> Result<Refusals, AllocError> {
         let bytes = shared.to_vec(alloc)?;
         shelf.keep(Path::new(SHARED), kept(bytes))?;
         let path = PathBuf::from_str(alloc, "index")?;
-        match File::at_in(&shelf, alloc, path, Kind::Sha1, false, at(1), options) {
+        match File::at_in(&shelf, alloc, path, reading()) {
             Ok(file) => {
                 refusals.entries = file.entries().len();
                 break;
@@ -279,7 +288,7 @@ fn no_fault_tears_an_index(rt: HostRuntime) -> Result<(), Fail> {
     let alloc = rt.alloc();
     let old = bytes_of(alloc, OLD, Options::default())?;
     let new = bytes_of(alloc, NEW, Options::default())?;
-    // (a fault that lasts from the step behind the making of a lock on keeps that from being removed)
+    // (an error that lasts from the step after the creation of the lock prevents the removal of the lock)
     let wanted = [
         (Call::Commit, false, 17, 0, 0),
         (Call::Commit, true, 17, 0, 15),
@@ -319,14 +328,16 @@ fn a_fault_names_the_file_that_is_read(rt: HostRuntime) -> Result<(), Fail> {
     Ok(())
 }
 
-/// Whether the index on a shelf was locked, had two entries, of which each had the new flags or none had, and was written
-/// with them, to the disk before it was put there where that is wanted. A second lock has to be refused meanwhile.
+/// Locks, changes and commits the index on a shelf. Returns whether all of these hold:
+///
+/// - The index was locked and committed, and a second lock failed in the meantime.
+/// - The index had two entries. Each had the new flags if `is_new`, and none had them otherwise.
+/// - The committed file is durable exactly if `is_synced`.
 fn is_committed(shelf: &mut Shelf<'_>, alloc: Global, is_new: bool, is_synced: bool) -> bool {
     let Ok(path) = PathBuf::from_str(alloc, "index") else {
         return false;
     };
-    let options = decode::Options::default();
-    let Ok(mut locked) = File::lock(shelf, alloc, path, Kind::Sha1, false, options, false) else {
+    let Ok(mut locked) = File::lock(shelf, alloc, path, reading(), IfMissing::Fail) else {
         return false;
     };
     let is_held = is_held(shelf, alloc);
@@ -335,8 +346,9 @@ fn is_committed(shelf: &mut Shelf<'_>, alloc: Global, is_new: bool, is_synced: b
         is_read &= entry.flags.contains(NEW) == is_new;
         entry.flags = NEW;
     }
+    let durable = if is_synced { Durable::Yes } else { Durable::No };
     if locked
-        .commit(shelf, alloc, Options::default(), is_synced)
+        .commit(shelf, alloc, Options::default(), durable)
         .is_err()
     {
         return false;
@@ -347,13 +359,12 @@ fn is_committed(shelf: &mut Shelf<'_>, alloc: Global, is_new: bool, is_synced: b
     }
 }
 
-/// Whether the index on a shelf can't be locked, as its lock is there.
+/// Returns whether the index on a shelf can't be locked because its lock exists.
 fn is_held(shelf: &mut Shelf<'_>, alloc: Global) -> bool {
     let Ok(path) = PathBuf::from_str(alloc, "index") else {
         return false;
     };
-    let options = decode::Options::default();
-    match File::lock(shelf, alloc, path, Kind::Sha1, false, options, false) {
+    match File::lock(shelf, alloc, path, reading(), IfMissing::Fail) {
         Err(lock::Error::Lock(lock::Fault::Held(lock))) => lock.as_path().as_str() == "index.lock",
         _ => false,
     }

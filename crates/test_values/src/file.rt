@@ -1,4 +1,4 @@
-//! Files that are taken apart, lent and copied.
+//! Tests of files that are taken apart, borrowed and cloned.
 
 use gix_index::entry::{FileTime, Flags, Mode, Stage, Stat};
 use gix_index::hash::{Kind, ObjectId};
@@ -7,7 +7,7 @@ use std::alloc::{AllocError, Global};
 use std::path::PathBuf;
 use std::test::Fail;
 
-/// A new file `made.index` with the entry `a`.
+/// Returns a new file `made.index` with the entry `a`.
 fn made(alloc: Global) -> Result<File, Fail> {
     let mut state = State::new(alloc, Kind::Sha1, FileTime::EPOCH);
     let id = ObjectId::Sha1([0x11; 20]);
@@ -47,7 +47,7 @@ fn a_file_becomes_its_state(rt: HostRuntime) -> Result<(), Fail> {
     Ok(())
 }
 
-/// How many entries the copy has.
+/// Returns the number of entries of a clone.
 fn copied_len(file: &File) -> Result<usize, AllocError> {
     Ok(file.clone()?.entries().len())
 }

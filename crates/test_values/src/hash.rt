@@ -1,11 +1,11 @@
-//! Digests of pieces, and the writers that hash.
+//! Tests of digests of pieces, and of the writers that hash.
 
 use gix_index::hash::io::{Out, Plain, Write};
 use gix_index::hash::{Hasher, Kind, ObjectId, digest};
 use std::io;
 use std::io::ErrorKind;
 
-/// The digest of a message that comes in pieces of so many bytes.
+/// Returns the digest of a message that is hashed in pieces of `size` bytes.
 fn digest_in_pieces(kind: Kind, message: &[u8], size: usize) -> ObjectId {
     let mut hasher = Hasher::new(kind);
     for piece in message.chunks(size.max(1)) {
@@ -33,7 +33,7 @@ fn kinds_have_a_length_and_a_null_id(rt: HostRuntime) {
     }
 }
 
-/// Takes at most `step` bytes a call, and fails once it has `room` of them.
+/// A writer that takes at most `step` bytes in each call, and fails if it has taken `room` bytes.
 #[derive(Drop)]
 struct Slow {
     taken: Vec<u8>,

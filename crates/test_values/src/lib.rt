@@ -1,6 +1,6 @@
-//! What no row of a table can show, tried as a user of the library does: values that are lent, changed and copied, and
-//! a file that is looked at again. What bytes and files are read as, and what is written and found, stands in the
-//! tables of the row programs.
+//! Tests of `gix_index` that rows of a table can't express: values that are borrowed, changed and cloned, and files
+//! that are read again. The tables of the row programs test what bytes and files are decoded to, and what is written
+//! and found.
 #![tactic(auto)]
 
 #[cfg(test)]
@@ -19,5 +19,7 @@ mod faults;
 mod file;
 #[cfg(test)]
 mod hash;
+#[cfg(test)]
+mod lines;
 #[cfg(test)]
 mod write;

@@ -1,4 +1,4 @@
-//! What is written by default.
+//! Tests of the default options of writing.
 
 use gix_index::write::{Extensions, Options};
 use std::process::Abort;

@@ -1,7 +1,7 @@
-//! Reading entries into a list, how many of them a file can hold, and how many bytes their paths may take.
+//! Decodes entries into a list, and bounds the number of entries and the bytes of their paths.
 
-pub use index_entry_reading::entries::{FirstEntries, entries_in};
-pub use index_reading::decode::entries::{
+pub use entry_decode::entries::{FirstEntries, entries_in};
+pub use index_decode::decode::entries::{
     AVERAGE_V4_DELTA_PATH_LEN_IN_BYTES, estimate_path_storage_requirements_in_bytes,
     max_entries_possible,
 };

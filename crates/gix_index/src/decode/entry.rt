@@ -1,7 +1,7 @@
-//! Entries at the front of bytes, one by one, and a list that gathers them.
+//! Decodes single entries from the start of bytes, and the list that collects them.
 
-pub use index_entries::Pathless;
-pub use index_entries::list::EntryList;
-pub use index_entries::slice::EntrySlice;
-pub use index_entry_reading::entry::{Lent, entry_of};
-pub use index_entry_reading::reader::EntryReader;
+pub use entry_decode::entry::{Lent, entry_of};
+pub use entry_decode::reader::EntryReader;
+pub use entry_list::Pathless;
+pub use entry_list::list::EntryList;
+pub use entry_list::slice::EntrySlice;

@@ -1,3 +1,3 @@
-//! The first twelve bytes of a file, and what can be wrong with them (gitformat-index, "A 12-byte header").
+//! Decodes the first twelve bytes of a file, and the errors of doing so (gitformat-index, "A 12-byte header").
 
-pub use index_reading::decode::header::{Error, decode};
+pub use index_decode::decode::header::{Error, decode};

@@ -1,3 +1,3 @@
-//! What can be wrong with an extension that has to be understood (gitformat-index, "Extensions").
+//! The errors in an extension that a reader has to understand (gitformat-index, "Extensions").
 
-pub use index_format::extension::Error;
+pub use index_model::extension::Error;

@@ -1,16 +1,17 @@
-//! Writing a `File`: the state's bytes, and their digest behind them.
+//! Writes a `File`: the state's bytes, followed by their digest.
 
 ghost use Rattle.index_state.specs.State.{contents};
 ghost use Rattle.gix_index.specs.WrittenFile.{PutsBodyTo, PutsFile};
 
 use super::File;
-use index_entries::Version;
-use index_format::write::{Error, Options};
+use entry_list::Version;
+use index_model::write::{Error, Options};
 use index_parts::hash::ObjectId;
 use index_parts::hash::io::{Out, Write};
 use index_state::State;
 
-/// Writes all but the trailer, and gives the id that is to stand behind it: the digest of that, or the null id.
+/// Writes everything except the trailer. Returns the id for the trailer: the digest of the written bytes, or the null
+/// id.
 fn put_body<W: Out>(
     state: &State,
     out: &mut W,
@@ -32,13 +33,17 @@ fn put_body<W: Out>(
 }
 
 impl File {
-    /// Writes the index as all bytes of a file: what [`State::write_to`] writes, and behind it the digest of that, or
-    /// zeros with `skip_hash`. It gives the file's version, and that digest or the null id. The checksum of this
-    /// `File` stays.
+    /// Writes the index as the bytes of a file: what [`State::write_to`] writes, then its digest. With `skip_hash`
+    /// zeros are written instead of the digest.
     ///
-    /// The refusals are those of [`State::write_to`]: [`Error::TooManyEntries`], [`Error::NulInPath`] and
-    /// [`Error::TooLarge`] before any byte; [`Error::Io`] where the writer failed, which then took a prefix of the
-    /// bytes. No memory is taken.
+    /// Returns the version that was written, and the digest or the null id. The checksum of this `File` is unchanged.
+    /// No memory is allocated.
+    ///
+    /// # Errors
+    ///
+    /// - [`Error::TooManyEntries`], [`Error::NulInPath`] and [`Error::TooLarge`]: those of [`State::write_to`]. No byte
+    ///   is written.
+    /// - [`Error::Io`]: the writer failed, after it took a prefix of the bytes.
     pub fn write_to<W: Out>(
         &self,
         out: &mut W,

@@ -1,27 +1,70 @@
-//! An index that is locked before it is read, so that no other writer comes between its reading and its writing.
+//! An index that is locked before it is read, so that no other writer changes it between reading and writing.
 
 ghost use Rattle.std.specs.Path.{path_buf_bytes};
-ghost use Rattle.std.specs.Prelude.{◌≡◌, IfErr, IfOk, None, Some, true};
+ghost use Rattle.std.specs.Prelude.{◌≡◌, [], IfErr, IfOk, None, OnErr, OnOk, Some, true};
+ghost use Rattle.file_errors.specs.WriteFaults.{CommitIndexCause};
+ghost use Rattle.file_place.specs.Locks.{IsReleased, LeadsTo, Restores, asked_of, lock_of, target_of};
+ghost use Rattle.file_place.specs.World.{Makes};
+ghost use Rattle.index_model.specs.Storable.{IsWritable};
 ghost use Rattle.index_state.specs.State.{contents};
-ghost use Rattle.gix_index.specs.OnDisk.{IsLockedWhole, IsReadBehind, LocksFile, SaysOfLockIn};
-ghost use Rattle.gix_index.specs.WrittenFile.{ReleasesLock, SavesFile, SavesLocked};
+ghost use Rattle.gix_index.specs.File.{state_of};
+ghost use Rattle.gix_index.specs.FileFaults.{LockReadCause};
+ghost use Rattle.gix_index.specs.InPlace.{IsPutSince};
+ghost use Rattle.gix_index.specs.OnDisk.{IsLockedWhole, IsReadLocked, allows_empty, is_durable};
+ghost use Rattle.gix_index.specs.WrittenFile.{IsWrittenTo};
 
 use super::File;
 use super::at::read_from;
-use super::write::{self, committed};
-pub use index_file_faults::lock::Error;
-use index_folder::folder::{Folder, Made};
-use index_folder::lock;
-pub use index_folder::lock::{Error as Fault, Lock, Place, acquire};
-use index_format::decode;
-use index_format::write::Options;
-use index_parts::hash::Kind;
-use index_window::ReadOptions;
+use super::write::{self, commit_bytes};
+pub use file_errors::lock::Error;
+use file_place::folder::{Folder, Made};
+use file_place::lock;
+pub use file_place::lock::{Error as Fault, Lock, Place, acquire};
+use file_windows::ReadOptions;
+use index_model::write::Options;
 use std::alloc::{AllocError, Global};
 use std::path::PathBuf;
 
-/// An index that is locked: git, and whoever locks as git does, writes no other in its place until it is committed or
-/// released. Where it is only dropped, its lock stays, and has to be removed by hand.
+/// What a call does if there is no file at the path of an index.
+#[derive(Debug, Clone, Copy)]
+pub enum IfMissing {
+    /// Returns the error of opening the file.
+    Fail,
+    /// Returns an index without entries.
+    Empty,
+}
+
+impl IfMissing {
+    /// Returns whether a missing file is read as an index without entries.
+    fn allows_empty(self) -> bool
+        ensures { result ≡ allows_empty self }
+    {
+        matches!(self, IfMissing::Empty)
+    }
+}
+
+/// Whether all bytes have to be on the disk before a file replaces another.
+#[derive(Debug, Clone, Copy)]
+pub enum Durable {
+    /// They are written to the disk first, so that a loss of power leaves the old file or the new one.
+    Yes,
+    /// The system writes them when it wants to.
+    No,
+}
+
+impl Durable {
+    /// Returns whether the bytes have to be on the disk.
+    fn is_durable(self) -> bool
+        ensures { result ≡ is_durable self }
+    {
+        matches!(self, Durable::Yes)
+    }
+}
+
+/// An index that is locked. Until it is committed or released, git doesn't write another index to its path. The same
+/// holds for every writer that locks as git does.
+///
+/// If it is only dropped, its lock file remains and has to be removed by hand.
 #[derive(Drop)]
 pub struct Locked<M: Made> {
     /// The index as it was read under the lock.
@@ -30,28 +73,42 @@ pub struct Locked<M: Made> {
 }
 
 impl File {
-    /// Locks the index at a path, and then reads it as [`File::open`] does; so what is committed takes the place of
-    /// what was read, or of an edit of it, and nothing that git writes meanwhile is lost. Where there is no file at the
-    /// path, and `or_default`, it is an empty one, as of the time at which the lock was made.
+    /// Locks the index at a path, and then reads it as [`File::open`] does. So a commit replaces exactly the index that
+    /// was read, and nothing that git writes meanwhile is lost.
     ///
-    /// [`Error::Lock`]: it isn't locked, as another process writes it, or as what is at the path is no place for an
-    /// index. [`Error::Read`] is that of [`File::open`]; it was tried then to remove the lock.
+    /// If there is no file at the path, [`IfMissing::Empty`] returns an index without entries, with the time at which
+    /// the lock was made. The timestamp of `reading` isn't used.
+    ///
+    /// # Errors
+    ///
+    /// - [`Error::Lock`]: the index isn't locked. Another process has the lock, or an index can't be written to that
+    ///   path.
+    /// - [`Error::Read`]: an error of [`File::open`]. Removing the lock was tried.
     pub fn lock<D: Folder>(
         folder: &mut D,
         alloc: Global,
         path: PathBuf,
-        object_hash: Kind,
-        skip_hash: bool,
-        options: decode::Options,
-        or_default: bool,
+        reading: ReadOptions,
+        if_missing: IfMissing,
     ) -> Result<Locked<D::Made>, Error>
         ensures read { IfOk result
-            (IsReadBehind D.Folder D.Made.changed folder.new path skip_hash object_hash options
-            or_default) }
-        ensures whole { IfOk result (IsLockedWhole (path_buf_bytes path) object_hash) }
-        ensures lock { LocksFile D.Folder D.Made.contents folder.old folder.new path result }
+            (IsReadLocked (D.known folder.new) path reading if_missing D.Made.changed) }
+        ensures whole { IfOk result (IsLockedWhole (path_buf_bytes path) reading.object_hash) }
+        ensures asked { IfOk result (λ x. asked_of x.lock.place ≡ path_buf_bytes path) }
+        ensures target { IfOk result
+            (λ x. LeadsTo (D.known folder.old) 5 (path_buf_bytes path) (target_of x.lock.place)) }
+        ensures made { IfOk result (λ x. Makes (D.guards folder.old) (D.known folder.old)
+            (D.known folder.new) (lock_of x.lock.place)) }
+        ensures empty { IfOk result
+            (λ x. D.alone folder.old ≡ true → D.Made.contents x.lock.file ≡ Some []) }
+        ensures restored { OnErr result (D.alone folder.old ≡ true
+            → Restores (D.works folder.old) (D.known folder.old) (D.known folder.new)
+            (path_buf_bytes path)) }
+        ensures alone { D.alone folder.new ≡ D.alone folder.old }
+        ensures works { D.works folder.new ≡ D.works folder.old }
         ensures fault { IfErr result
-            (SaysOfLockIn D.Folder folder.old path skip_hash object_hash options) }
+            (LockReadCause (path_buf_bytes path) (D.works folder.old) (D.guards folder.old)
+            (D.known folder.old) reading.skip_hash reading.object_hash reading.options) }
     {
         let asked = match path.clone() {
             Ok(asked) => asked,
@@ -59,10 +116,8 @@ impl File {
         };
         let Lock { place, file: made } = lock::acquire(folder, alloc, asked)?;
         let reading = ReadOptions {
-            object_hash,
-            skip_hash,
             timestamp: made.modified(),
-            options,
+            ..reading
         };
         match read_from(
             folder,
@@ -70,7 +125,7 @@ impl File {
             place.target(),
             path,
             reading,
-            or_default,
+            if_missing.allows_empty(),
             true,
         ) {
             Ok(file) => Ok(Locked {
@@ -85,30 +140,52 @@ impl File {
         }
     }
 
-    /// Writes the index in the place of the file that was locked, and its path is then the one that was asked for
-    /// there.
+    /// Replaces the file that was locked with this index. The path of this `File` becomes the path that was given to
+    /// the lock.
     ///
-    /// What [`File::write_to`] writes goes to the lock through a buffer of 64 KiB. The file gets the permissions of the
-    /// one whose place it takes, and [`State::timestamp`](index_state::State::timestamp) as the time of its last
-    /// change, where that can be told: git trusts what the index says of a file of the work tree only where that file
-    /// is older than the index, so that each file which git would have looked at, it still looks at. With `is_synced`
-    /// all bytes are on the disk before it takes that place.
+    /// What [`File::write_to`] writes goes to the lock file through a buffer of 64 KiB. The new file gets the
+    /// permissions of the file that it replaces. Its modification time is set to
+    /// [`State::timestamp`](index_state::State::timestamp), if that time can be set. git trusts the stat data of an
+    /// entry only if the file of the work tree is older than the index. So git still reads every file that it would
+    /// have read before. With [`Durable::Yes`] all bytes are on the disk before the file is replaced.
     ///
-    /// Version and checksum become those that were written; the checksum becomes None with `skip_hash`. All else stays.
-    /// The errors are those of [`File::write`], but for [`write::Error::AcquireLock`]. After one this `File` and the
-    /// file that was locked are as they were, and it was tried to remove the lock.
+    /// Version and checksum become those that were written; the checksum becomes `None` with `skip_hash`. Everything
+    /// else is unchanged.
+    ///
+    /// The errors are those of [`File::write`] except [`write::Error::AcquireLock`]. After an error this `File` and the
+    /// file that was locked are unchanged, and removing the lock was tried.
     pub fn commit<D: Folder>(
         &mut self,
         folder: &mut D,
         alloc: Global,
         lock: Lock<D::Made>,
         options: Options,
-        is_synced: bool,
+        durable: Durable,
     ) -> Result<(), write::Error>
-        ensures { SavesFile D.Folder D.Made.contents folder.old folder.new self.old self.new lock
-            options is_synced result }
+        ensures ok { OnOk result (IsWrittenTo (asked_of lock.place) self.old self.new options) }
+        ensures err { OnErr result (self.new ≡ self.old) }
+        ensures writable { OnOk result (IsWritable (contents (state_of self.old)) options) }
+        ensures put { OnOk result (D.alone folder.old ≡ true → D.Made.contents lock.file ≡ Some []
+            → IsPutSince (D.known folder.old) (D.known folder.new) lock.place
+            (contents (state_of self.old)) options) }
+        ensures synced { OnOk result
+            (is_durable durable ≡ true → D.durable folder.new (target_of lock.place)) }
+        ensures released { OnErr result (D.alone folder.old ≡ true
+            → IsReleased (D.works folder.old) (D.known folder.old) (D.known folder.new)
+            (lock_of lock.place)) }
+        ensures fault { IfErr result (CommitIndexCause (D.works folder.old) lock.place
+            (contents (state_of self.old)) options) }
+        ensures alone { D.alone folder.new ≡ D.alone folder.old }
+        ensures works { D.works folder.new ≡ D.works folder.old }
     {
-        let (path, version, id) = committed(self, folder, alloc, lock, options, is_synced)?;
+        let (path, version, id) = commit_bytes(
+            self,
+            folder,
+            alloc,
+            lock,
+            options,
+            durable.is_durable(),
+        )?;
         self.path = path;
         self.state.set_version(version);
         self.checksum = if options.skip_hash { None } else { Some(id) };
@@ -117,7 +194,7 @@ impl File {
 }
 
 impl<M: Made> Locked<M> {
-    /// The index, and its lock.
+    /// Returns the index and its lock.
     pub fn into_parts(self) -> (File, Lock<M>)
         ensures file { result.0 ≡ self.file }
         ensures lock { result.1 ≡ self.lock }
@@ -126,29 +203,45 @@ impl<M: Made> Locked<M> {
         (file, lock)
     }
 
-    /// Writes the index, as it is now, in the place of the file that was locked, by [`File::commit`], and gives it as
-    /// it is there. After an error that file is as it was, and it was tried to remove the lock.
+    /// Replaces the file that was locked with the current index, by [`File::commit`]. Returns the index as it was
+    /// written.
+    ///
+    /// The errors are those of [`File::commit`]. After an error the file that was locked is unchanged, and removing the
+    /// lock was tried.
     pub fn commit<D: Folder<Made = M>>(
         self,
         folder: &mut D,
         alloc: Global,
         options: Options,
-        is_synced: bool,
+        durable: Durable,
     ) -> Result<File, write::Error>
-        ensures { SavesLocked D.Folder M.contents folder.old folder.new self options is_synced
-            result }
+        ensures ok { IfOk result
+            (λ f. IsWrittenTo (asked_of self.lock.place) self.file f options) }
+        ensures writable { OnOk result (IsWritable (contents (state_of self.file)) options) }
+        ensures put { OnOk result (D.alone folder.old ≡ true → M.contents self.lock.file ≡ Some []
+            → IsPutSince (D.known folder.old) (D.known folder.new) self.lock.place
+            (contents (state_of self.file)) options) }
+        ensures synced { OnOk result
+            (is_durable durable ≡ true → D.durable folder.new (target_of self.lock.place)) }
+        ensures released { OnErr result (D.alone folder.old ≡ true
+            → IsReleased (D.works folder.old) (D.known folder.old) (D.known folder.new)
+            (lock_of self.lock.place)) }
+        ensures fault { IfErr result (CommitIndexCause (D.works folder.old) self.lock.place
+            (contents (state_of self.file)) options) }
     {
         let Locked { mut file, lock } = self;
-        match file.commit(folder, alloc, lock, options, is_synced) {
+        match file.commit(folder, alloc, lock, options, durable) {
             Ok(()) => Ok(file),
             Err(e) => Err(e),
         }
     }
 
-    /// Gives the lock up, which it is tried to remove, and gives the index as it is in memory.
+    /// Releases the lock, and returns the index as it is in memory. Removing the lock file is tried.
     pub fn release<D: Folder<Made = M>>(self, folder: &mut D) -> File
         ensures file { result ≡ self.file }
-        ensures released { ReleasesLock D.Folder folder.old folder.new self.lock }
+        ensures released { D.alone folder.old ≡ true
+            → IsReleased (D.works folder.old) (D.known folder.old) (D.known folder.new)
+            (lock_of self.lock.place) }
     {
         let (file, lock) = self.into_parts();
         lock.release(folder);

@@ -1,27 +1,29 @@
-//! An index in the bytes of its file, for a caller that puts each entry somewhere itself.
+//! Decodes an index from the bytes of its file without entries, for callers that store the entries themselves.
 
 ghost use Rattle.std.specs.Prelude.{IfErr, IfOk};
-ghost use Rattle.index_state.specs.State.{PathsInStorage};
 ghost use Rattle.gix_index.specs.Outlined.{IsOutlined};
 ghost use Rattle.gix_index.specs.OnDisk.{IsFileFault, NeedsIntact};
 ghost use Rattle.index_outline.specs.Outlines.{OutlineIdsAreOf};
 
 use super::File;
 use super::init::{Error, check};
-use index_format::decode;
-use index_metadata::entry::FileTime;
+use entry_fields::entry::FileTime;
+use index_decode::decode::{ReadAs, declared_in};
+use index_model::decode;
 pub use index_outline::Outline;
 use index_outline::outline_behind_header;
 use index_parts::hash::Kind;
-use index_reading::decode::{ReadAs, declared_in};
 use std::alloc::Global;
 
 impl File {
-    /// Looks at all bytes of a file as [`File::decode`] does, and finds the same first fault; but it keeps no entry,
-    /// and only counts them and the bytes of their paths. So no memory is taken for entries. A caller reads them from
-    /// [`Outline::entries`] by [`crate::decode::entry::entry_of`], and none of them is at fault.
+    /// Decodes all bytes of a file as [`File::decode`] does, except the entries. It only counts them and the bytes of
+    /// their paths, so no memory is allocated for entries. The first error is that of [`File::decode`].
     ///
-    /// [`Error::Memory`] also stands for paths that have 2^64 bytes or more together.
+    /// A caller reads the entries from [`Outline::entries`] with [`crate::decode::entry::entry_of`]. All of them are
+    /// valid.
+    ///
+    /// The errors are those of [`File::decode`]. [`Error::Memory`] is also returned if the paths have 2^64 bytes or
+    /// more together.
     pub fn outline(
         alloc: Global,
         data: &[u8],
@@ -35,7 +37,6 @@ impl File {
         ensures fault { IfErr result (IsFileFault skip_hash object_hash timestamp options
             «data».now) }
         ensures intact { IfErr result (NeedsIntact skip_hash object_hash «data».now) }
-        ensures placed { IfOk result (λ o. PathsInStorage o.bare) }
         ensures extension_ids { IfOk result
             (OutlineIdsAreOf object_hash) }
     {

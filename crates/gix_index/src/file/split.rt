@@ -1,24 +1,25 @@
-//! An index in the bytes of its file and of the shared index that it links to (gitformat-index, "Split index").
+//! Decodes an index from the bytes of its file and of the shared index that it links to (gitformat-index, "Split
+//! index").
 
 ghost use Rattle.std.specs.Option.{option_map};
 ghost use Rattle.std.specs.Path.{path_buf_bytes};
 ghost use Rattle.std.specs.Prelude.{◌≡◌, IfErr, IfOk, None};
-ghost use Rattle.index_split.specs.Link.{link_of};
+ghost use Rattle.ext_split.specs.Link.{link_of};
 ghost use Rattle.index_state.specs.Edits.{without_link};
 ghost use Rattle.index_state.specs.State.{contents, entries_of, storage_of};
 ghost use Rattle.gix_index.specs.File.{IsWholeFile};
 ghost use Rattle.gix_index.specs.Linked.{Follows};
-ghost use Rattle.gix_index.specs.OnDisk.{IsFileInHand, SaysOfBothInHand};
+ghost use Rattle.gix_index.specs.OnDisk.{IsFileInHand, BothBytesCause};
 
 use super::File;
-use super::init::{Error, decoded};
-use index_split::link::Link;
+use super::init::{Error, decode_file};
+use ext_split::link::Link;
+use file_windows::ReadOptions;
 use index_state::State;
-use index_window::ReadOptions;
 use std::alloc::Global;
 use std::path::PathBuf;
 
-/// Takes the link out of a state, and gives it where it is followed: where its id isn't null. All else stays.
+/// Removes the link from a state, and returns it if it is followed: if its id isn't null. Everything else is unchanged.
 pub fn take_followed_link(state: &mut State) -> Option<Link>
     ensures given { Follows (contents state.old).extensions.link (option_map link_of result) }
     ensures removed { contents state.new ≡ without_link (contents state.old) }
@@ -35,12 +36,16 @@ pub fn take_followed_link(state: &mut State) -> Option<Link>
 }
 
 impl File {
-    /// Reads an index from all bytes of its file, with those of the shared index that it links to, as [`File::at`]
-    /// reads both: the trailer of the shared one has to be the id that the link names, or null. Where the link has a
-    /// null id, or there is none, the shared bytes aren't looked at.
+    /// Decodes an index from all bytes of its file and of the shared index that it links to, as [`File::at`] reads both
+    /// files. The trailer of the shared index must be the id in the link, or null. If there is no link or its id is
+    /// null, the shared bytes aren't read.
     ///
-    /// [`Error::Decode`] and [`Error::Memory`] are those of [`File::decode`], for either; [`Error::LinkExtension`] says
-    /// why the two don't fit. No other error comes.
+    /// # Errors
+    ///
+    /// - [`Error::Decode`] and [`Error::Memory`]: those of [`File::decode`], for either file.
+    /// - [`Error::LinkExtension`]: the link doesn't match the shared index.
+    ///
+    /// [`Error::Io`] doesn't occur.
     pub fn decode_split(
         alloc: Global,
         data: &[u8],
@@ -52,16 +57,16 @@ impl File {
             (IsFileInHand «data».now shared.now reading) }
         ensures whole { IfOk result (IsWholeFile (path_buf_bytes path) reading.object_hash) }
         ensures fault { IfErr result
-            (SaysOfBothInHand «data».now shared.now reading) }
+            (BothBytesCause «data».now shared.now reading) }
     {
-        let mut file = decoded(alloc, data, None, path, reading)?;
+        let mut file = decode_file(alloc, data, path, reading)?;
         let Some(link) = take_followed_link(&mut file.state) else {
             return Ok(file);
         };
         let mut options = reading.options;
         options.expected_checksum = Some(link.shared_index_checksum);
         let reading = ReadOptions { options, ..reading };
-        let index = decoded(alloc, shared, None, PathBuf::new(alloc), reading)?;
+        let index = decode_file(alloc, shared, PathBuf::new(alloc), reading)?;
         let (shared, _) = index.into_parts();
         link.dissolve_into(alloc, &mut file.state, shared)?;
         Ok(file)

@@ -1,70 +1,39 @@
-//! Reading an index from the disk by itself: in windows or whole, with the bytes behind its entries or without.
+//! Reads an index from the disk without its shared index: in windows or all at once, optionally with the bytes after
+//! its entries.
 
-ghost use Rattle.std.specs.Prelude.{◌≡◌, Option, IfErr, IfNone, IfOk, IfSome, Ok};
+ghost use Rattle.std.specs.Prelude.{◌≡◌, Option, IfErr, IfOk, IfSome, Ok};
 ghost use Rattle.std.specs.Path.{path_buf_bytes};
-ghost use Rattle.index_folder.specs.World.{whole_of};
-ghost use Rattle.index_format.specs.declared.decode.Options.{Options};
+ghost use Rattle.file_place.specs.World.{whole_of};
 ghost use Rattle.index_parts.specs.declared.hash.ObjectId.{ObjectId};
-ghost use Rattle.index_window.specs.Behind.{FollowEntries};
-ghost use Rattle.index_window.specs.Intact.{digest_id};
+ghost use Rattle.file_windows.specs.Intact.{digest_id};
 ghost use Rattle.gix_index.specs.Disk.{known_of};
-ghost use Rattle.gix_index.specs.ReadFile.{IsFileReadKeeping, IsNoIndex, IsReadKeeping, SaysOfAny};
-ghost use Rattle.gix_index.specs.ReadFile.{SaysOfHolder};
-ghost use Rattle.gix_index.specs.OnDisk.{IsAloneOf, ReadsAloneAt, SaysOfSource};
+ghost use Rattle.gix_index.specs.Linked.{IsReadAlone};
+ghost use Rattle.gix_index.specs.ReadFile.{FileOptionsCause, IsFileReadKeeping, IsReadKeeping};
+ghost use Rattle.gix_index.specs.ReadFile.{PossibleBytesCause};
+ghost use Rattle.gix_index.specs.OnDisk.{IsAloneOf};
 
 use super::File;
-use super::init::{Error, decoded};
-use index_folder::fault::PathError;
-use index_folder::folder::{Folder, Source};
-use index_format::decode;
-use index_metadata::entry::FileTime;
-use index_parts::hash::{Kind, ObjectId};
-use index_reading::decode::header;
+use super::init::{Error, decoded_knowing};
+use file_place::folder::{Folder, Source};
+use file_windows::ReadOptions;
+use file_windows::disk::{WholeFile, bytes_of};
+use file_windows::large::in_windows;
+use index_parts::hash::ObjectId;
 use index_state::State;
-use index_window::ReadOptions;
-use index_window::disk::{WholeFile, bytes_of};
-use index_window::large::in_windows;
-use index_window::passed::pass_entries;
 use std::alloc::Global;
-use std::io;
-use std::io::ErrorKind;
 use std::path::PathBuf;
 
-/// An index that was read by itself, and the end of its file.
+/// An index that was read without its shared index, and the end of its file.
 #[derive(Drop)]
 pub struct Unfollowed {
     /// The index. A link to a shared index is in it as it was read.
     pub index: File,
-    /// The bytes behind its entries: the extensions and the trailer.
+    /// The bytes after its entries: the extensions and the trailer.
     pub ending: Vec<u8>,
 }
 
-/// What it says that a file can't be opened or read.
-pub(super) fn read_fault(path: PathBuf, error: io::Error) -> Error
-    ensures { SaysOfAny (path_buf_bytes path) error result }
-{
-    if error.kind() == ErrorKind::OutOfMemory {
-        return Error::Memory;
-    }
-    Error::Io(PathError { path, error })
-}
-
-/// The bytes behind the entries of a file; None only where it is no index.
-fn behind_entries(kind: Kind, bytes: &[u8]) -> Option<&[u8]>
-    ensures found { IfSome result (λ rest. FollowEntries kind bytes.now rest.now) }
-    ensures none { IfNone result (IsNoIndex kind bytes.now) }
-{
-    let Ok((version, count, entries)) = header::decode(bytes, kind) else {
-        return None;
-    };
-    match pass_entries(version, kind, count, entries) {
-        Ok(passed) => Some(passed.rest),
-        Err(_) => None,
-    }
-}
-
-/// The index in all bytes of a file, with those behind its entries where they are kept. The digest is taken where it is
-/// to be compared and isn't known yet.
+/// Returns the index in all bytes of a file, with a copy of the bytes after its entries if `keeps_ending` is set. The
+/// digest is computed if it is to be compared and isn't known.
 fn decoded_whole(
     alloc: Global,
     bytes: &[u8],
@@ -77,23 +46,22 @@ fn decoded_whole(
     ensures read { IfOk result (IsReadKeeping keeps_ending reading bytes.now) }
     ensures formed { IfOk result
         (IsAloneOf (path_buf_bytes path) reading.object_hash) }
-    ensures fault { IfErr result (SaysOfHolder (path_buf_bytes path) bytes.now reading) }
+    ensures fault { IfErr result (PossibleBytesCause (path_buf_bytes path) bytes.now reading) }
 {
-    let index = decoded(alloc, bytes, known, path, reading)?;
+    let decoded = decoded_knowing(alloc, bytes, known, path, reading)?;
+    let (index, rest) = (decoded.file, decoded.ending);
+    let mut ending = Vec::new(alloc);
     if !keeps_ending {
-        let ending = Vec::new(alloc);
         return Ok(Unfollowed { index, ending });
     }
-    let Some(rest) = behind_entries(reading.object_hash, bytes) else {
-        unreachable!()
-    };
-    let mut ending = Vec::with_capacity(alloc, rest.len())?;
     ending.extend_from_slice(rest)?;
     Ok(Unfollowed { index, ending })
 }
 
-/// The index in an opened file, which isn't followed: read in windows, or else whole. The bytes behind its entries are
-/// with it where they are kept, and else none or some of them. Of a file whose first bytes are no header none are held.
+/// Reads the index in an opened file without following its link: in windows if possible, or else all at once.
+///
+/// With `keeps_ending` all bytes after its entries are returned. Otherwise none or some of them are. If the first bytes
+/// aren't a header, no bytes are held in memory.
 pub(super) fn read_file<S: Source>(
     alloc: Global,
     mut file: S,
@@ -107,7 +75,7 @@ pub(super) fn read_file<S: Source>(
     ensures formed { IfOk result
         (IsAloneOf (path_buf_bytes path) reading.object_hash) }
     ensures fault { IfErr result
-        (SaysOfSource S.Source file path reading) }
+        (FileOptionsCause (path_buf_bytes path) (S.works file) (known_of (S.stored file)) reading) }
 {
     match in_windows(alloc, &mut file, reading, keeps_ending) {
         Ok(Some(read)) => {
@@ -121,45 +89,42 @@ pub(super) fn read_file<S: Source>(
             });
         }
         Ok(None) => {}
-        Err(e) => return Err(read_fault(path, e)),
+        Err(e) => return Err(Error::of(path, e)),
     }
     match bytes_of(alloc, file, reading.object_hash, reading.skip_hash) {
         Ok(WholeFile::Held(bytes, digest)) => {
             decoded_whole(alloc, &bytes, digest, path, reading, keeps_ending)
         }
         Ok(WholeFile::Refused(e)) => Err(Error::Decode(e)),
-        Err(e) => Err(read_fault(path, e)),
+        Err(e) => Err(Error::of(path, e)),
     }
 }
 
 impl File {
-    /// Reads the index in the file at a path as [`File::at`] does, but leaves its link to a shared index alone, as
-    /// [`File::decode`] does; and gives the bytes behind its entries, which the extensions and the trailer are
-    /// (gitformat-index, "Extensions"). Of a large file no more than these and a window are held beside the index.
+    /// Reads the index in the file at a path as [`File::at`] does, but doesn't follow its link to a shared index.
     ///
-    /// [`Error::Io`] names the file, which can't be opened or read. [`Error::Decode`] and [`Error::Memory`] are those
-    /// of [`File::decode`].
+    /// Also returns the bytes after its entries: the extensions and the trailer (gitformat-index, "Extensions"). For a
+    /// large file, only these bytes and one window are in memory in addition to the index.
+    ///
+    /// # Errors
+    ///
+    /// - [`Error::Io`]: the file can't be opened or read. The error names the file.
+    /// - [`Error::Decode`] and [`Error::Memory`]: those of [`File::decode`].
     pub fn unfollowed_at<D: Folder>(
         folder: &D,
         alloc: Global,
         path: PathBuf,
-        object_hash: Kind,
-        skip_hash: bool,
-        timestamp: FileTime,
-        options: decode::Options,
+        reading: ReadOptions,
     ) -> Result<Unfollowed, Error>
-        ensures { ReadsAloneAt D.Folder folder.now path skip_hash object_hash timestamp options
-            result }
+        ensures read { IfOk result (IsReadAlone (D.known folder.now (path_buf_bytes path))
+            reading.skip_hash reading.object_hash reading.timestamp reading.options) }
+        ensures formed { IfOk result (IsAloneOf (path_buf_bytes path) reading.object_hash) }
+        ensures fault { IfErr result (FileOptionsCause (path_buf_bytes path) (D.works folder.now)
+            (D.known folder.now (path_buf_bytes path)) reading) }
     {
-        let reading = ReadOptions {
-            object_hash,
-            skip_hash,
-            timestamp,
-            options,
-        };
         match folder.open(path.as_path()) {
             Ok(file) => read_file(alloc, file, path, reading, true),
-            Err(e) => Err(read_fault(path, e)),
+            Err(e) => Err(Error::of(path, e)),
         }
     }
 }

@@ -1,25 +1,25 @@
-//! Writing a `File` to its path, by way of a lock file.
+//! Writes a `File` to its path by means of a lock file.
 
 ghost use Rattle.std.specs.Prelude.{◌≡◌, Some, IfErr, IfOk, OnErr, OnOk};
-ghost use Rattle.index_file_faults.specs.WriteFaults.{SaysOfPut};
-ghost use Rattle.index_format.specs.Storable.{IsWritable};
+ghost use Rattle.file_errors.specs.WriteFaults.{WriteErrorCause};
+ghost use Rattle.index_model.specs.Storable.{IsWritable};
 ghost use Rattle.index_state.specs.State.{contents};
 ghost use Rattle.gix_index.specs.File.{state_of};
-ghost use Rattle.gix_index.specs.OnSystem.{SaysOfWritingOnSystem};
+ghost use Rattle.gix_index.specs.OnSystem.{SystemWriteCause};
 ghost use Rattle.gix_index.specs.WrittenFile.{IsWritten};
-ghost use Rattle.gix_index.specs.WrittenFile.{id_of, version_of};
-ghost use Rattle.gix_index.specs.WrittenFile.{HoldsImage, LeavesLockOf, Saves, SaysOfWritingIn, StoresIn};
+ghost use Rattle.gix_index.specs.WrittenFile.{written_id, written_version};
+ghost use Rattle.gix_index.specs.WrittenFile.{HoldsImage, LeavesLockOf, Saves, FolderWriteCause, StoresIn};
 
 use super::File;
-use index_entries::Version;
-pub use index_file_faults::write::Error;
-use index_file_faults::write::{Step, fault_of, put_fault};
-use index_folder::fault::PathError;
-use index_folder::folder::Folder;
-use index_folder::lock::{CommitError, Lock, lock_path};
-use index_folder::system::System;
-use index_format::write;
-use index_format::write::Options;
+use entry_list::Version;
+pub use file_errors::write::Error;
+use file_errors::write::{Step, fault_of, put_fault};
+use file_place::fault::PathError;
+use file_place::folder::Folder;
+use file_place::lock::{CommitError, Lock, lock_path};
+use file_place::system::System;
+use index_model::write;
+use index_model::write::Options;
 use index_parts::hash::ObjectId;
 use index_parts::hash::io::{Plain, Retrying};
 use std::alloc::Global;
@@ -28,13 +28,14 @@ use std::io::BufWriter;
 use std::path::PathBuf;
 use std::rt::Files;
 
-/// How many bytes go to the file at once.
+/// The size in bytes of the write buffer.
 const BUFFER_LEN: usize = 65536;
 
-/// Writes all bytes of an index to a lock, and lets that take the place of the file that was locked. Gives the path
-/// that was asked for there, and the version and the id that were written. After a failure it was tried to remove the
-/// lock.
-pub(super) fn committed<D: Folder>(
+/// Writes all bytes of an index to a lock file, and replaces the file that was locked with it.
+///
+/// Returns the path that was given to the lock, and the version and the id that were written. After an error removing
+/// the lock was tried.
+pub(super) fn commit_bytes<D: Folder>(
     index: &File,
     folder: &mut D,
     alloc: Global,
@@ -59,7 +60,7 @@ pub(super) fn committed<D: Folder>(
     }
 }
 
-/// A writer that all bytes were written to, with their version and the id at their end.
+/// A writer to which all bytes were written, with their version and the id at their end.
 #[derive(Drop)]
 struct Filled<W> {
     version: Version,
@@ -75,12 +76,12 @@ impl File {
         file: W,
         options: Options,
     ) -> Result<Filled<W>, write::Error>
-        ensures version { IfOk result (λ x. x.version ≡ version_of self.now options) }
-        ensures id { IfOk result (λ x. x.id ≡ id_of self.now options) }
+        ensures version { IfOk result (λ x. x.version ≡ written_version self.now options) }
+        ensures id { IfOk result (λ x. x.id ≡ written_id self.now options) }
         ensures bytes { IfOk result
             (HoldsImage W.contents file self.now options) }
         ensures writable { OnOk result (IsWritable (contents (state_of self.now)) options) }
-        ensures fault { IfErr result (SaysOfPut (contents (state_of self.now)) options) }
+        ensures fault { IfErr result (WriteErrorCause (contents (state_of self.now)) options) }
     {
         let buffer = BufWriter::with_capacity(alloc, BUFFER_LEN, Retrying { inner: file })?;
         let mut out = Plain::new(buffer);
@@ -91,21 +92,21 @@ impl File {
         }
     }
 
-    /// Writes all bytes to the lock file, which is made new, and lets it take the index's place. After a failure its
-    /// removal was tried, unless it was there before.
+    /// Writes all bytes to a new lock file, and renames it to the path of the index. After an error its removal was
+    /// tried, unless the lock file existed before.
     fn replace<D: Folder>(
         &self,
         folder: &mut D,
         alloc: Global,
         options: Options,
     ) -> Result<(Version, ObjectId), Error>
-        ensures version { IfOk result (λ x. x.0 ≡ version_of self.now options) }
-        ensures id { IfOk result (λ x. x.1 ≡ id_of self.now options) }
+        ensures version { IfOk result (λ x. x.0 ≡ written_version self.now options) }
+        ensures id { IfOk result (λ x. x.1 ≡ written_id self.now options) }
         ensures writable { OnOk result (IsWritable (contents (state_of self.now)) options) }
         ensures put { OnOk result (StoresIn D.Folder folder.old folder.new self.now options) }
         ensures left { OnErr result (LeavesLockOf D.Folder folder.old folder.new self.now) }
         ensures fault { IfErr result
-            (SaysOfWritingIn D.Folder folder.old self.now options) }
+            (FolderWriteCause D.Folder folder.old self.now options) }
     {
         let lock = lock_path(alloc, &self.path)?;
         let path = self.path.clone()?;
@@ -129,27 +130,33 @@ impl File {
         }
     }
 
-    /// Writes the index to its path, by way of the lock file `<path>.lock`, which keeps other writers out while it is
-    /// written, and not since it was read: beside git, [`File::lock`] is what loses nothing. The files are the system's.
+    /// Writes the index to its path by means of the lock file `<path>.lock`. The files are the system's.
     ///
-    /// The lock file is made new; where there is one already, nothing is written. What [`File::write_to`] writes goes
-    /// to it through a buffer of 64 KiB, and then it is renamed to the path. Version and checksum become those that
-    /// were written; the checksum becomes None with `skip_hash`. All else stays. Nothing is synced to the disk.
+    /// The lock excludes other writers only while the index is written, not since it was read. To lose no change that
+    /// git makes concurrently, use [`File::lock`].
     ///
-    /// [`Error::AcquireLock`], [`Error::Io`] and [`Error::CommitLock`] say which step failed;
-    /// [`Error::TooManyEntries`], [`Error::NulInPath`] and [`Error::TooLarge`] are those of [`File::write_to`]. After
-    /// an error this `File` is as it was, and it was tried to remove the lock file, unless that was another's.
+    /// The lock file is created; if it already exists, nothing is written. What [`File::write_to`] writes goes to it
+    /// through a buffer of 64 KiB, and then it is renamed to the path. Nothing is synced to the disk. Version and
+    /// checksum become those that were written; the checksum becomes `None` with `skip_hash`. Everything else is
+    /// unchanged.
+    ///
+    /// # Errors
+    ///
+    /// - [`Error::AcquireLock`], [`Error::Io`] and [`Error::CommitLock`]: the step that the variant names failed.
+    /// - [`Error::TooManyEntries`], [`Error::NulInPath`] and [`Error::TooLarge`]: those of [`File::write_to`].
+    ///
+    /// After an error this `File` is unchanged. Removing the lock file was tried, unless it belongs to another writer.
     pub fn write<R: Files>(&mut self, rt: &R, alloc: Global, options: Options) -> Result<(), Error>
         ensures ok { OnOk result (IsWritten self.old self.new options) }
         ensures err { OnErr result (self.new ≡ self.old) }
         ensures writable { OnOk result (IsWritable (contents (state_of self.old)) options) }
-        ensures fault { IfErr result (SaysOfWritingOnSystem self.old options) }
+        ensures fault { IfErr result (SystemWriteCause self.old options) }
     {
         let mut folder = System { rt };
         self.write_in(&mut folder, alloc, options)
     }
 
-    /// Writes the index as [`File::write`] does, to a path in a folder.
+    /// Writes the index as [`File::write`] does, to a path in a [`Folder`].
     pub fn write_in<D: Folder>(
         &mut self,
         folder: &mut D,
@@ -162,7 +169,7 @@ impl File {
         ensures put { OnOk result (StoresIn D.Folder folder.old folder.new self.old options) }
         ensures left { OnErr result (LeavesLockOf D.Folder folder.old folder.new self.old) }
         ensures fault { IfErr result
-            (SaysOfWritingIn D.Folder folder.old self.old options) }
+            (FolderWriteCause D.Folder folder.old self.old options) }
     {
         let (version, id) = self.replace(folder, alloc, options)?;
         self.state.set_version(version);

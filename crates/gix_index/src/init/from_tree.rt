@@ -1,3 +1,3 @@
-//! Why an index can't be made of a tree.
+//! The errors of creating an index from a tree.
 
-pub use index_tree_reader::from_tree::{Error, Traversal};
+pub use tree_decode::from_tree::{Error, Traversal};

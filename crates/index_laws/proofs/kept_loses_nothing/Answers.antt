@@ -1,4 +1,4 @@
-use Rattle.index_format.proofs.Canonical.{kept_reads_back}
+use Rattle.index_model.proofs.Canonical.{kept_reads_back}
 use Rattle.index_laws.proofs.kept_loses_nothing.Goals as goal
 
 pub returns : goal.returns

@@ -1,5 +1,5 @@
-use Rattle.index_format.proofs.OnceAnswers.{answer_one}
-use Rattle.index_format.proofs.SomeAnswers.{answer_some}
+use Rattle.index_model.proofs.OnceAnswers.{answer_one}
+use Rattle.index_model.proofs.SomeAnswers.{answer_some}
 use Rattle.index_laws.proofs.one_answer.Goals as goal
 
 pub returns-clause-some : goal.returns-clause-some

@@ -1,4 +1,4 @@
-use Rattle.index_tree_reader.proofs.OneListing.{leaves_some, leaves_one}
+use Rattle.tree_decode.proofs.OneListing.{leaves_some, leaves_one}
 use Rattle.index_laws.proofs.one_listing.Goals as goal
 
 pub returns-clause-some : goal.returns-clause-some

@@ -1,16 +1,16 @@
-use Rattle.index_untracked.proofs.CacheReadings.{cache_reading, cache_reading_one}
+use Rattle.ext_untracked.proofs.CacheReadings.{cache_reading, cache_reading_one}
 use Rattle.index_extensions.proofs.MarkerReadings.{marker_reading, marker_reading_one}
-use Rattle.index_small_extensions.proofs.Monitors.{monitor_reading, monitor_reading_one}
+use Rattle.ext_small.proofs.Monitors.{monitor_reading, monitor_reading_one}
 use Rattle.index_extensions.proofs.Readings.{one_read}
-use Rattle.index_small_extensions.proofs.ResolveUndo.{resolve_undo_reading, resolve_undo_reading_one}
-use Rattle.index_small_extensions.proofs.TableReadings.{table_reading, table_reading_one}
-use Rattle.index_cached_tree.proofs.TreeReadings.{tree_reading, tree_reading_one}
+use Rattle.ext_small.proofs.ResolveUndo.{resolve_undo_reading, resolve_undo_reading_one}
+use Rattle.ext_small.proofs.TableReadings.{table_reading, table_reading_one}
+use Rattle.ext_tree.proofs.TreeReadings.{tree_reading, tree_reading_one}
 use Rattle.index_extensions.proofs.Walks.{walk_of, walk_one}
-use Rattle.index_bitmaps.proofs.BitmapFaults.{bitmap_or_fault, no_fault, one_fault}
-use Rattle.index_bitmaps.proofs.Bitmaps.{one_bitmap}
-use Rattle.index_split.specs.Link.{IsLink}
-use Rattle.index_split.proofs.OnceLinks.{link_reading, one_link}
-use Rattle.index_split.proofs.OnceLinkFaults.{one_link_fault}
+use Rattle.ext_bitmap.proofs.BitmapFaults.{bitmap_or_fault, no_fault, one_fault}
+use Rattle.ext_bitmap.proofs.Bitmaps.{one_bitmap}
+use Rattle.ext_split.specs.Link.{IsLink}
+use Rattle.ext_split.proofs.OnceLinks.{link_reading, one_link}
+use Rattle.ext_split.proofs.OnceLinkFaults.{one_link_fault}
 use Rattle.index_laws.proofs.one_reading.Goals as goal
 
 pub returns-clause-tree : goal.returns-clause-tree

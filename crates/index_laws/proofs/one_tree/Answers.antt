@@ -1,5 +1,5 @@
 use Rattle.std.proofs.Common.{◌∙◌, sym}
-use Rattle.index_tree_writer.proofs.OneTree.{same_items}
+use Rattle.tree_encode.proofs.OneTree.{same_items}
 use Rattle.index_laws.proofs.one_tree.Goals as goal
 
 pub returns : goal.returns

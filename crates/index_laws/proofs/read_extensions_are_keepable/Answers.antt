@@ -1,4 +1,4 @@
-use Rattle.index_format.proofs.ReadValues.{answer_read}
+use Rattle.index_model.proofs.ReadValues.{answer_read}
 use Rattle.index_laws.proofs.read_extensions_are_keepable.Goals as goal
 
 pub returns : goal.returns

@@ -1,4 +1,4 @@
-use Rattle.index_format.proofs.Canonical.{rewrite_is_canonical}
+use Rattle.index_model.proofs.Canonical.{rewrite_is_canonical}
 use Rattle.index_laws.proofs.rewrite_is_canonical.Goals as goal
 
 pub returns : goal.returns

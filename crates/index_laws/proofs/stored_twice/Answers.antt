@@ -1,4 +1,4 @@
-use Rattle.index_format.proofs.Twice.{stored_twice}
+use Rattle.index_model.proofs.Twice.{stored_twice}
 use Rattle.index_laws.proofs.stored_twice.Goals as goal
 
 pub returns : goal.returns

@@ -1,4 +1,4 @@
-use Rattle.index_format.proofs.Canonical.{version_change_loses_nothing}
+use Rattle.index_model.proofs.Canonical.{version_change_loses_nothing}
 use Rattle.index_laws.proofs.version_change_loses_nothing.Goals as goal
 
 pub returns : goal.returns

@@ -1,4 +1,4 @@
-use Rattle.index_format.proofs.RoundTrip.{written_reads_back}
+use Rattle.index_model.proofs.RoundTrip.{written_reads_back}
 use Rattle.index_laws.proofs.written_reads_back.Goals as goal
 
 pub returns : goal.returns

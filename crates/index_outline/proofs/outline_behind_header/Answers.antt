@@ -1,16 +1,17 @@
 use Rattle.std.proofs.Common.{◌≡◌, ◌∙◌, Bool, [], ap, refl, sym}
 use Rattle.std.proofs.lemmas.Result.{err_from_is_err_and}
-use Rattle.index_entries.specs.Held.{Held}
-use Rattle.index_entries.specs.Record.{has_directory}
-use Rattle.index_format.specs.Answer.{IsBehindHeader, IsEnding, has, lacks}
-use Rattle.index_format.specs.Contents.{parts_contents}
-use Rattle.index_format.specs.declared.Parts.{Parts}
-use Rattle.index_format.proofs.Answers.{body_late}
-use Rattle.index_state.specs.State.{contents}
-use Rattle.index_window.specs.Passed.{paths_len}
+use Rattle.entry_list.specs.Held.{Held}
+use Rattle.entry_list.specs.Record.{has_directory}
+use Rattle.index_model.specs.Answer.{IsBehindHeader, IsEnding, has, lacks}
+use Rattle.index_model.specs.Contents.{parts_contents}
+use Rattle.index_model.specs.Outcome.{outcome_of}
+use Rattle.index_model.specs.declared.extension.Outcome.{Outcome}
+use Rattle.index_model.proofs.Answers.{body_late}
+use Rattle.file_windows.specs.Passed.{paths_len}
 use Rattle.index_outline.specs.declared.Outline.{Outline}
+use Rattle.index_outline.specs.Outlines.{outlined_value}
 use Rattle.index_outline.proofs.OutlineFaults.{says_weaker}
-use Rattle.index_outline.proofs.Outlines.{ending_fault, fits_is, marked_value, outline_from}
+use Rattle.index_outline.proofs.Outlines.{ending_fault, fits_is, marked_value, outline_from, without_records}
 use Rattle.index_outline.proofs.outline_behind_header.Goals as goal
 
 pub returns-in-Err-clause-fault : goal.returns-in-Err-clause-fault
@@ -39,14 +40,19 @@ returns-clause-outlined c =
     let parts = c.in_ok-parts.parts in
     let none : c.new.result.records ≡ [] = ap (λ (h : Held). h.records) c.new.ensures in
     let o : Outline = record {
-      bare = c.from.result;
+      object_hash = parts.object_hash;
+      timestamp = parts.timestamp;
+      version = parts.version;
+      extensions = c.with_sparse_mark.result;
+      extensions_fit = parts.extensions_fit;
       count = c.args.count;
       path_bytes = c.in-Some.path_bytes;
       entries = c.args.bytes;
       checksum = c.in_ok-parts.checksum;
     } in
-    let bare : contents c.from.result ≡ marked_value (has_directory passed.0) (parts_contents parts) =
-    ap (λ (p : Parts). parts_contents p) (c.from.ensures ∙ c.marked.ensures)
+    let bare : outlined_value o [] ≡ marked_value (has_directory passed.0) (parts_contents parts) =
+    ap (λ (e : Outcome). record (without_records (parts_contents parts)) { extensions = outcome_of e })
+    c.with_sparse_mark.ensures
     ∙ ap (λ (b : Bool). marked_value b (parts_contents parts)) passed.4 in
     outline_from r.object_hash r.timestamp r.options r.version passed.0 c.in-Ok.passed.rest.now (parts_contents parts) o
     passed.1 passed.2 (fits_is (paths_len passed.0) c.in-Some.path_bytes (sym passed.3 ∙ c.in-Some.is)) bare

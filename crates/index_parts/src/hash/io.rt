@@ -1,4 +1,4 @@
-//! Writers that say how much they took, and hash it.
+//! Writers that report how much they took, and hash it.
 
 ghost use Rattle.std.specs.Prelude.{◌≡◌, ◌≢◌, ◌||◌, ℕ, List, [], ◌∷◌, Option, Bool, false, ⊤, is_err, IfErr, OnOk};
 ghost use Rattle.std.specs.Prelude.{OnErr, map};
@@ -14,10 +14,10 @@ use super::{Hasher, Kind};
 use std::io;
 use std::io::ErrorKind;
 
-/// How often in a row a write is tried that a signal interrupts.
+/// The number of calls in a row for which a write that is interrupted by a signal is repeated.
 const MAX_TRIES: u32 = u32::MAX;
 
-/// A writer over another that tries a write again where a signal interrupted it.
+/// A writer over another one. It repeats a write that was interrupted by a signal.
 #[derive(Drop)]
 pub struct Retrying<W> {
     /// The writer.
@@ -27,8 +27,10 @@ pub struct Retrying<W> {
 impl<W: io::Write> io::Write for Retrying<W> {
     ghost contents = { λ r. W.contents r.inner };
 
-    /// One write of `inner` that no signal interrupted. An error is that of `inner`, of any kind but
-    /// [`ErrorKind::Interrupted`]; or [`ErrorKind::TimedOut`] where signals interrupt 2^32 - 1 calls in a row.
+    /// Writes some of the bytes with one write of `inner` that no signal interrupted. Returns how many it took.
+    ///
+    /// An error is that of `inner`, of any kind except [`ErrorKind::Interrupted`]. If signals interrupt 2^32 - 1 calls
+    /// in a row, it is [`ErrorKind::TimedOut`].
     fn write(&mut self, buf: &[u8]) -> io::Result<usize>
         ensures bound { WritesAtMost result buf.now }
         ensures bytes { WriteAppends (W.contents self.old.inner) (W.contents self.new.inner) result
@@ -49,8 +51,10 @@ impl<W: io::Write> io::Write for Retrying<W> {
     }
 }
 
-/// Writes all bytes, by as many calls of `write` as it takes. An error of any kind ends it, and so does a call that
-/// takes no byte, with [`ErrorKind::WriteZero`]. By then the writer took a prefix of the bytes, maybe none.
+/// Writes all bytes, with as many calls of `write` as are needed.
+///
+/// The first error of any kind ends it. A call that takes no byte ends it too, with [`ErrorKind::WriteZero`]. After an
+/// error the writer has taken a prefix of the bytes, maybe none.
 pub fn put_all<W: io::Write>(out: &mut W, bytes: &[u8]) -> io::Result<()>
     ensures ok { OnOk result (Appends (W.contents out.old) (W.contents out.new) bytes.now) }
     ensures err { OnErr result (AppendsPrefix (W.contents out.old) (W.contents out.new) bytes.now) }
@@ -67,35 +71,35 @@ pub fn put_all<W: io::Write>(out: &mut W, bytes: &[u8]) -> io::Result<()>
     Ok(())
 }
 
-/// Takes bytes piece by piece, and has failed from the first piece on that it did not take whole.
+/// A writer that takes bytes piece by piece. It has failed from the first piece on that it didn't take completely.
 pub trait Out {
-    // The bytes taken so far; None where they are not known, as of a file.
+    // The bytes taken so far, or None if they aren't known, as those of a file.
     ghost taken: { Self → Option (List ℕ) };
 
-    // It has failed: a piece was not taken whole.
+    // The writer has failed: a piece was not taken completely.
     ghost failed: { Self → Bool };
 
-    // At this depth, counted from 0, a hasher of this kind has taken in the pieces that were taken whole, which are
-    // these bytes.
+    // At this depth, counted from 0, a hasher of this algorithm has taken in the pieces that were taken completely,
+    // which are these bytes.
     ghost hashed: { Self → ℕ → Kind → List ℕ → Type 0 } = { λ _ _ _ _. ⊤ };
 
-    // The loans through which it writes, the nearest first.
+    // The borrows through which it writes, the nearest first.
     ghost loan: { Self → List ℕ } = { λ _. [] };
 
-    /// Takes the whole piece. An error took a prefix of it, maybe none or all, and hashed nothing of it; the writer has
-    /// failed from then on.
+    /// Takes the complete piece. After an error the writer took a prefix of it, maybe none or all, and hashed nothing
+    /// of it. The writer has then failed.
     fn put(&mut self, piece: &[u8]) -> io::Result<()>
         ensures bytes { Takes taken hashed self.old self.new result piece.now }
         ensures unhashed { OnErr result (KeepsHashed hashed self.old self.new) }
         ensures has_failed { failed self.new ≡ (is_err result || failed self.old) }
         ensures loan { loan self.new ≡ loan self.old };
 
-    /// Whether the writer has failed: a piece was not taken whole.
+    /// Returns whether the writer has failed: a piece was not taken completely.
     fn has_failed(&self) -> bool
         ensures { result ≡ failed self.now };
 
-    /// Takes these pieces in turn. The first error ends it, and took a prefix of its piece; the pieces before that one
-    /// were taken whole, and they alone were hashed.
+    /// Takes these pieces in order. The first error ends it. After an error the writer took a prefix of that piece. The
+    /// pieces before it were taken completely, and only they were hashed.
     final fn put_each(&mut self, pieces: &[&[u8]]) -> io::Result<()>
     where
         Self: Sized,
@@ -140,7 +144,7 @@ pub struct Plain<W> {
 }
 
 impl<W: io::Write> Plain<W> {
-    /// Over this writer. It has not failed yet.
+    /// Returns an `Out` over this writer. It has not failed yet.
     pub fn new(inner: W) -> Plain<W>
         ensures has_failed { ⟦<Plain<W> as Out>⟧.failed result ≡ false }
         ensures inner { result.inner ≡ inner }
@@ -152,7 +156,8 @@ impl<W: io::Write> Plain<W> {
     }
 }
 
-/// A piece goes out by [`put_all`]: an error of any kind is a failure, and so is a call of `write` that takes no byte.
+/// A piece is written by [`put_all`]. An error of any kind is a failure, and so is a call of `write` that takes no
+/// byte.
 impl<W: io::Write> Out for Plain<W> {
     ghost taken = { λ p. W.contents p.inner };
 
@@ -169,17 +174,17 @@ impl<W: io::Write> Out for Plain<W> {
     }
 }
 
-/// Passes pieces on, and hashes each one that was taken whole. It has failed where `inner` has.
+/// An [`Out`] that passes pieces on, and hashes each one that was taken completely. It has failed if `inner` has.
 #[derive(Drop)]
 pub struct Write<W> {
-    /// Where the pieces go.
+    /// The writer of the pieces.
     pub inner: W,
-    /// What was hashed so far.
+    /// The hasher of the pieces so far.
     pub hash: Hasher,
 }
 
 impl<W: Out> Write<W> {
-    /// Over `inner`, with nothing hashed yet.
+    /// Returns a writer over `inner` that has hashed nothing yet.
     pub fn new(inner: W, kind: Kind) -> Write<W>
         ensures inner { result.inner ≡ inner }
         ensures kind { hasher_kind result.hash ≡ kind }
@@ -201,7 +206,7 @@ impl<W: Out> Out for Write<W> {
 
     ghost loan = { λ w. W.loan w.inner };
 
-    /// Takes the whole piece and hashes it. An error leaves the hasher as it was.
+    /// Takes the complete piece and hashes it. After an error the hasher is unchanged.
     fn put(&mut self, piece: &[u8]) -> io::Result<()>
         ensures bytes { Takes ⟦<Write<W> as Out>⟧.taken ⟦<Write<W> as Out>⟧.hashed self.old self.new
             result piece.now }

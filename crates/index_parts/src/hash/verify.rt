@@ -1,22 +1,22 @@
-//! Comparing a digest with the one that was expected.
+//! Comparison of a digest with the expected one.
 
 ghost use Rattle.std.specs.Prelude.{◌≡◌, ◌↔◌, IsOk, IfErr};
 
 use super::ObjectId;
 use thiserror::Error;
 
-/// A digest is not the one that was expected.
+/// The error if a digest is not the expected one.
 #[derive(Clone, Copy, Debug, PartialEq, Eq, Error)]
 #[error("the digest is {actual}, but {expected} was expected: the data may be damaged")]
 pub struct Error {
     /// The digest of the data.
     pub actual: ObjectId,
-    /// The digest that was expected.
+    /// The expected digest.
     pub expected: ObjectId,
 }
 
 impl ObjectId {
-    /// Compares this digest with the one that was expected. An error names both.
+    /// Compares this digest with the expected one. If they differ, the error has both.
     pub fn verify(&self, expected: &ObjectId) -> Result<(), Error>
         ensures ok { IsOk result ↔ (self.now ≡ expected.now) }
         ensures actual { IfErr result (λ error. error.actual ≡ self.now) }

@@ -1,36 +1,36 @@
-//! Setting parts of a state, and lending or giving out its entries.
+//! Setters of a state, and calls that borrow or return its entries.
 
 ghost use Rattle.std.specs.Borrow.{sem};
 ghost use Rattle.std.specs.Option.{option_copied_mut};
 ghost use Rattle.std.specs.Prelude.{◌≡◌, IfSome};
-ghost use Rattle.index_metadata.specs.Flags.{stage_code};
-ghost use Rattle.index_lookups.specs.Lookup.{HasKey, place_of};
+ghost use Rattle.entry_fields.specs.Flags.{stage_code};
+ghost use Rattle.entry_lookup.specs.Lookup.{HasKey, record_index};
 ghost use Rattle.index_state.specs.Edits.{LendsEntries, LendsEntryAt, with_time, with_version};
 ghost use Rattle.index_state.specs.State.{contents, entries_of, storage_of};
 ghost use Rattle.index_state.specs.StateEdits.{Sets};
 ghost use Rattle.index_state.specs.StateSearches.{FindsEntry, IsEntryWith};
 
 use crate::State;
-use index_entries::{Entry, PathStorage, PathStorageRef, Version};
-use index_metadata::entry::{FileTime, Stage};
+use entry_fields::entry::{FileTime, Stage};
+use entry_list::{Entry, PathStorage, PathStorageRef, Version};
 
 impl State {
-    /// Sets when the file was last written. All else stays.
+    /// Sets the time at which the file was last written. Everything else is unchanged.
     pub fn set_timestamp(&mut self, timestamp: FileTime)
         ensures { Sets (with_time (contents self.old) timestamp) self.old self.new }
     {
         self.parts.timestamp = timestamp;
     }
 
-    /// Sets the version, as a file that was just written has it. All else stays: which version a later write takes is
-    /// told by the entries alone.
+    /// Sets the version, as it is in a file that was just written. Everything else is unchanged. The version of a later
+    /// write depends only on the entries.
     pub fn set_version(&mut self, version: Version)
         ensures { Sets (with_version (contents self.old) version) self.old self.new }
     {
         self.parts.version = version;
     }
 
-    /// The entries and the storage of their paths; all else is given up.
+    /// Returns the entries and the storage of their paths. Everything else is dropped.
     pub fn into_entries(self) -> (Vec<Entry>, PathStorage)
         ensures entries { result.0.items ≡ entries_of self }
         ensures storage { result.1.items ≡ storage_of self }
@@ -38,8 +38,8 @@ impl State {
         (self.parts.entries, self.parts.path_backing)
     }
 
-    /// The entries, lent for writing, and beside them the storage of their paths. What was last written through the
-    /// slice is what the state has then. The extensions aren't known to fit the entries behind it; all else stays.
+    /// Borrows the entries mutably, and the storage of their paths. The state keeps what was last written through the
+    /// slice. The extensions aren't known to match the entries afterwards. Everything else is unchanged.
     pub fn entries_mut_and_pathbacking(&mut self) -> (&mut [Entry], PathStorageRef<'_>)
         ensures* writes_back { sem 𝓛 (LendsEntries self.entry result.0) }
         ensures value { result.0.now ≡ entries_of self.old }
@@ -48,14 +48,14 @@ impl State {
         self.parts.entries_mut_and_storage()
     }
 
-    /// The entry at the path and the stage, lent for writing, or None, as
-    /// [`entry_by_path_and_stage`](State::entry_by_path_and_stage) finds it. What was last written through it stands in
-    /// its place then. The extensions aren't known to fit the entries behind a loan; all else stays.
+    /// Borrows the entry at the path and the stage mutably, or returns `None`. The entry is that of
+    /// [`entry_by_path_and_stage`](State::entry_by_path_and_stage). The state keeps what was last written through the
+    /// borrow. The extensions aren't known to match the entries after a borrow. Everything else is unchanged.
     pub fn entry_mut_by_path_and_stage(&mut self, path: &[u8], stage: Stage) -> Option<&mut Entry>
         ensures* writes_back { sem 𝓛 (LendsEntryAt path.now (stage_code stage) self.entry result) }
         ensures found { IfSome result
             (λ e. IsEntryWith (HasKey path.now (stage_code stage)) self.old e.now) }
-        ensures answer { FindsEntry (place_of path.now (stage_code stage)) self.old
+        ensures answer { FindsEntry (record_index path.now (stage_code stage)) self.old
             (option_copied_mut result) }
     {
         let idx = self.entry_index_by_path_and_stage(path, stage)?;

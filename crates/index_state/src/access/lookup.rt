@@ -1,4 +1,4 @@
-//! Ranges, directories and folded lookups of a state's entries.
+//! Lookups of a state's entries by range, by directory and without regard to case.
 
 ghost use Rattle.std.specs.Bool.{OnTrue};
 ghost use Rattle.std.specs.List.{list_any};
@@ -6,33 +6,33 @@ ghost use Rattle.std.specs.Option.{option_copied};
 ghost use Rattle.std.specs.Prelude.{◌≡◌, ◌↔◌, ◌≤◌, Option, length, take, is_some};
 ghost use Rattle.std.specs.Prelude.{true, IfOk, IfSome, IsTrue};
 ghost use Rattle.std.specs.declared.ops.Range.{Range};
-ghost use Rattle.index_metadata.specs.Flags.{stage_code};
-ghost use Rattle.index_lookups.specs.Closest.{closest, stands_in};
-ghost use Rattle.index_lookups.specs.FilterMap.{IsFilterOf};
-ghost use Rattle.index_lookups.specs.Folded.{folded_closest, folded_place};
-ghost use Rattle.index_lookups.specs.Lookup.{IsKeyAt};
-ghost use Rattle.index_entries.specs.Order.{IsOrderedByPath};
-ghost use Rattle.index_lookups.specs.Range.{FindsRange, HasStageOf, IsPrefixRange, LiesWithin, is_at};
-ghost use Rattle.index_lookups.specs.Range.{place_of_path};
-ghost use Rattle.index_lookups.specs.Searches.{IsHalving, SearchesDirectory, SearchesFolded};
-ghost use Rattle.index_lookups.specs.Searches.{SearchesPrefix};
+ghost use Rattle.entry_fields.specs.Flags.{stage_code};
+ghost use Rattle.entry_lookup.specs.Closest.{closest, stands_in};
+ghost use Rattle.entry_lookup.specs.FilterMap.{IsFilterOf};
+ghost use Rattle.entry_lookup.specs.Folded.{folded_closest, folded_place};
+ghost use Rattle.entry_lookup.specs.Lookup.{IsKeyAt};
+ghost use Rattle.entry_list.specs.Order.{IsOrderedByPath};
+ghost use Rattle.entry_lookup.specs.Range.{FindsRange, HasStageOf, IsPrefixRange, LiesWithin, is_at};
+ghost use Rattle.entry_lookup.specs.Range.{place_of_path};
+ghost use Rattle.entry_lookup.specs.Searches.{IsHalving, SearchesDirectory, SearchesFolded};
+ghost use Rattle.entry_lookup.specs.Searches.{SearchesPrefix};
 ghost use Rattle.index_state.specs.State.{entries_of, records, storage_of};
 ghost use Rattle.index_state.specs.StateSearches.{FindsClosest, FindsEntry, FindsPart, FindsPlace, FindsPrefixed};
 ghost use Rattle.index_state.specs.StateSearches.{IsEntryWith, entry_by};
 
 use crate::State;
-use index_entries::Entry;
-use index_lookups::folded::AccelerateLookup;
-use index_lookups::paths::{self, FilterMapPaths};
-use index_lookups::tables::{self, DirectoryTable, PathSearch};
-use index_lookups::{directory, range};
-use index_metadata::entry::Stage;
+use entry_fields::entry::Stage;
+use entry_list::Entry;
+use entry_lookup::folded::AccelerateLookup;
+use entry_lookup::paths::{self, FilterMapPaths};
+use entry_lookup::tables::{self, DirectoryTable, PathSearch};
+use entry_lookup::{directory, range};
 use std::alloc::{AllocError, Global};
 use std::ops::Range;
 
 impl State {
-    /// The paths of the entries with what the closure gives of them. It gets each entry once, in their order, and one
-    /// that it gives nothing of is left out.
+    /// Returns the paths of the entries, each with the value that the closure returns for it. The closure is called
+    /// once for each entry, in their order. An entry for which it returns `None` is omitted.
     pub fn entries_with_paths_by_filter_map<'a, T, F: FnMut(&'a [u8], &'a Entry) -> Option<T>>(
         &'a self,
         filter_map: F,
@@ -42,10 +42,12 @@ impl State {
         paths::entries_with_paths_by_filter_map(self.entries(), self.path_backing(), filter_map)
     }
 
-    /// The place of the entry at the path and the stage among the first `upper_bound` entries, counted from 0, or None.
+    /// Returns the index of the entry at the path and the stage among the first `upper_bound` entries, counted from 0,
+    /// or `None`.
     ///
-    /// Where these strictly increase by path, then stage, it is the one place, and None says that there is none. Else a
-    /// place still has that path and stage, and None says nothing.
+    /// If these strictly increase by path, then stage, the index is the only one, and `None` means that there is no
+    /// such entry. In any other order the entry at a returned index still has that path and stage, and `None` has no
+    /// meaning.
     pub fn entry_index_by_path_and_stage_bounded(
         &self,
         path: &[u8],
@@ -61,10 +63,10 @@ impl State {
         range::entry_index_by_path_and_stage_bounded(&self.slice(), path, stage, upper_bound)
     }
 
-    /// The entry at the path: that at stage 0, or else that at stage 2, our side of a merge, or else None.
+    /// Returns the entry at the path with stage 0, or else the one with stage 2 (our side of a merge), or else `None`.
     ///
-    /// It is promised over entries that strictly increase by path, then stage. Over other entries an entry that is
-    /// given still has that path and one of both stages, and None says nothing.
+    /// This is guaranteed if the entries strictly increase by path, then stage. In any other order a returned entry
+    /// still has that path and one of these stages, and `None` has no meaning.
     pub fn entry_by_path(&self, path: &[u8]) -> Option<&Entry>
         ensures found { IfSome result
             (λ e. IsEntryWith (HasStageOf path.now) self.now e.now) }
@@ -74,10 +76,10 @@ impl State {
         Some(&self.parts.entries[place])
     }
 
-    /// The places of the entries at the path, counted from 0, or None where there are none.
+    /// Returns the indexes of the entries at the path, counted from 0, or `None` if there are none.
     ///
-    /// Over entries whose paths never fall they are all such places, and None says that there are none. Over other
-    /// entries they are places of the list, and no more is said.
+    /// If the paths of the entries never decrease, these are all such indexes, and `None` means that there are none. In
+    /// any other order the indexes are only known to be below the number of entries.
     pub fn entry_range(&self, path: &[u8]) -> Option<Range<usize>>
         ensures { FindsRange (is_at path.now) (IsOrderedByPath (records self.now))
             (records self.now) result }
@@ -85,8 +87,8 @@ impl State {
         range::entry_range(&self.slice(), path)
     }
 
-    /// The entries whose path begins with the bytes of the prefix, or None where there are none, as
-    /// [`prefixed_entries_range`](State::prefixed_entries_range) has their places.
+    /// Returns the entries whose path begins with the bytes of the prefix, or `None` if there are none. Their indexes
+    /// are those of [`prefixed_entries_range`](State::prefixed_entries_range).
     pub fn prefixed_entries(&self, prefix: &[u8]) -> Option<&[Entry]>
         ensures in_range { FindsPart (λ range. IfSome range (LiesWithin (entries_of self.now)))
             self.now (option_copied result) }
@@ -99,10 +101,11 @@ impl State {
         Some(&self.parts.entries[range])
     }
 
-    /// The places of the entries whose path begins with the bytes of the prefix, counted from 0, or None where there
-    /// are none. The empty prefix has all places, also of no entries: `0..0`.
+    /// Returns the indexes of the entries whose path begins with the bytes of the prefix, counted from 0, or `None` if
+    /// there are none. For the empty prefix it returns all indexes, and `0..0` if there are no entries.
     ///
-    /// Over entries whose paths never fall they are all such places. Over other entries they are places of the list.
+    /// If the paths of the entries never decrease, these are all such indexes. In any other order the indexes are only
+    /// known to be below the number of entries.
     pub fn prefixed_entries_range(&self, prefix: &[u8]) -> Option<Range<usize>>
         ensures in_range { IfSome result (LiesWithin (records self.now)) }
         ensures exactly { IsOrderedByPath (records self.now)
@@ -112,22 +115,26 @@ impl State {
         range::prefixed_entries_range(&self.slice(), prefix)
     }
 
-    /// Where the range of the prefix begins, that is how many paths are below it; and how many times the prefix was
-    /// compared with a path: over n entries, in any order, at most one more than n has binary digits, and at least once
-    /// where there are entries.
+    /// Returns the start of the prefix's range, which is the number of paths below it, and how many times the prefix
+    /// was compared with a path. For n entries, in any order, that is at most the number of binary digits of n plus
+    /// one. If there are entries, it is at least one.
     ///
-    /// The number is promised over entries whose paths never fall. Over other entries it is at most their number.
+    /// The start is guaranteed if the paths of the entries never decrease. In any other order it is at most the number
+    /// of entries.
     pub fn search_prefix(&self, prefix: &[u8]) -> (usize, usize)
         ensures { SearchesPrefix prefix.now (records self.now) result }
     {
         range::search_prefix(&self.slice(), prefix)
     }
 
-    /// Where entries stand at the directory, the first that stands for a directory itself, a sparse one or a submodule,
-    /// or None. Else the first entry below the directory: its path goes on behind the directory and a slash.
+    /// Returns the entry that is closest to the directory, or `None`.
     ///
-    /// It is promised over entries whose paths never fall. Over other entries an entry that is given still is the
-    /// directory or stands below it, and None says nothing.
+    /// If entries at the directory's path represent a directory themselves (a sparse directory or a submodule), it is
+    /// the first of them. Otherwise it is the first entry below the directory. The path of an entry below it continues
+    /// with a slash after the directory's path.
+    ///
+    /// This is guaranteed if the paths of the entries never decrease. In any other order a returned entry still is the
+    /// directory or is below it, and `None` has no meaning.
     pub fn entry_closest_to_directory_or_directory(&self, directory: &[u8]) -> Option<&Entry>
         ensures found { IfSome result
             (λ e. IsEntryWith (λ r. stands_in directory.now r ≡ true) self.now e.now) }
@@ -137,10 +144,10 @@ impl State {
         Some(&self.parts.entries[place])
     }
 
-    /// Whether the path is a directory: one that an entry stands for, or one that entries are below.
+    /// Returns whether the path is a directory: an entry represents it, or entries are below it.
     ///
-    /// It is promised over entries whose paths never fall. Over other entries the answer true still says that there is
-    /// such an entry, and false says nothing.
+    /// This is guaranteed if the paths of the entries never decrease. In any other order true still means that there is
+    /// such an entry, and false has no meaning.
     pub fn path_is_directory(&self, path: &[u8]) -> bool
         ensures found { OnTrue result (list_any (stands_in path.now) (records self.now) ≡ true) }
         ensures answer { IsOrderedByPath (records self.now)
@@ -149,16 +156,18 @@ impl State {
         directory::path_is_directory(&self.slice(), path)
     }
 
-    /// The table by which the folded lookups find entries of this state. It borrows the state, asks for memory, and
-    /// nothing is left of it after a refusal; the lookups by it ask for none.
+    /// Builds the table for the lookups of this state's entries without regard to case. It borrows the state and
+    /// allocates memory. The lookups by it allocate none.
+    ///
+    /// The error is an allocation failure. Nothing is then left of the table.
     pub fn prepare_icase_backing(&self, alloc: Global) -> Result<AccelerateLookup<'_>, AllocError>
         ensures { IfOk result (λ lookup. lookup ≡ records self.now) }
     {
         AccelerateLookup::new(alloc, self.entries(), self.path_backing())
     }
 
-    /// The first entry at the path, in the order of the entries, or None; the case of ASCII letters is ignored where
-    /// asked. The table is one that was made from these entries, which may be in any order.
+    /// Returns the first entry at the path, in the order of the entries, or `None`. The case of ASCII letters is
+    /// ignored on request. The table must be built from these entries, which may be in any order.
     pub fn entry_by_path_icase(
         &self,
         path: &[u8],
@@ -172,8 +181,9 @@ impl State {
         Some(&self.parts.entries[place])
     }
 
-    /// The place of that entry, and how many paths were compared: of n entries at most one more than n has binary
-    /// digits, and at least one where there are entries.
+    /// Returns the index of the entry that [`entry_by_path_icase`](State::entry_by_path_icase) returns, and how many
+    /// paths were compared. For n entries that is at most the number of binary digits of n plus one. If there are
+    /// entries, it is at least one.
     pub fn search_path_icase(
         &self,
         path: &[u8],
@@ -186,8 +196,9 @@ impl State {
         lookup.search_path_icase(path, ignore_case)
     }
 
-    /// The first entry, in the order of the entries, that stands for the directory or below it, or None; the case of
-    /// ASCII letters is ignored where asked. The table is one that was made from these entries, in any order.
+    /// Returns the first entry, in the order of the entries, that represents the directory or is below it, or `None`.
+    /// The case of ASCII letters is ignored on request. The table must be built from these entries, which may be in any
+    /// order.
     pub fn entry_closest_to_directory_or_directory_icase(
         &self,
         directory: &[u8],
@@ -202,8 +213,10 @@ impl State {
         Some(&self.parts.entries[place])
     }
 
-    /// The place of that entry, and how many names were compared: of m directories at most one more than m has binary
-    /// digits, and at least one where there are directories.
+    /// Returns the index of the entry of
+    /// [`entry_closest_to_directory_or_directory_icase`](State::entry_closest_to_directory_or_directory_icase), and how
+    /// many names were compared. For m directories that is at most the number of binary digits of m plus one. If there
+    /// are directories, it is at least one.
     pub fn search_directory_icase(
         &self,
         directory: &[u8],
@@ -216,7 +229,7 @@ impl State {
         lookup.search_directory_icase(directory, ignore_case)
     }
 
-    /// Whether the path is a directory: one that an entry stands for, or one that entries are below.
+    /// Returns whether the path is a directory: an entry represents it, or entries are below it.
     pub fn path_is_directory_icase(
         &self,
         path: &[u8],
@@ -229,17 +242,19 @@ impl State {
         lookup.path_is_directory_icase(path, ignore_case)
     }
 
-    /// Whether the paths of the entries never fall. It takes no memory.
+    /// Returns whether the paths of the entries never decrease. No memory is allocated.
     pub fn is_ordered_by_path(&self) -> bool
         ensures { IsTrue result ↔ IsOrderedByPath (records self.now) }
     {
         tables::is_ordered_by_path(&self.slice())
     }
 
-    /// The table of the directories that entries stand below, for searches by way of them. It borrows the state, asks
-    /// for memory, and nothing is left of it after a refusal; searches by it ask for none.
+    /// Builds the table of the directories that have entries below them, for searches by directory. It borrows the
+    /// state and allocates memory. The searches by it allocate none.
     ///
-    /// [`is_ordered_by_path`](State::is_ordered_by_path) tells whether it may be made.
+    /// [`is_ordered_by_path`](State::is_ordered_by_path) tests the precondition.
+    ///
+    /// The error is an allocation failure. Nothing is then left of the table.
     pub fn prepare_directory_table(&self, alloc: Global) -> Result<DirectoryTable<'_>, AllocError>
         requires { IsOrderedByPath (records self.now) }
         ensures { IfOk result (λ table. table ≡ records self.now) }

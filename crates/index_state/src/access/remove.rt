@@ -1,24 +1,24 @@
-//! Taking entries of a state out.
+//! Removes entries from a state.
 
 ghost use Rattle.std.specs.Prelude.{◌≡◌, ◌<◌, length, remove};
-ghost use Rattle.index_entries.specs.Removed.{ChangesFlagsAlone, LeavesPaths};
+ghost use Rattle.entry_list.specs.Removed.{ChangesFlagsAlone, LeavesPaths};
 ghost use Rattle.index_state.specs.Edits.{edited};
 ghost use Rattle.index_state.specs.State.{PathsInStorage, contents, entries_of, records, storage_of};
 ghost use Rattle.index_state.specs.State.{KeepsStorable};
 ghost use Rattle.index_state.specs.StateEdits.{FiltersBy, FiltersByPlace, RemovesFrom, TakesOut};
 
 use crate::State;
-use index_entries::{Entry, remove};
+use entry_list::{Entry, remove};
 
 impl State {
-    /// Shows every entry to the closure, from the first to the last and each one time, with its path and the place that
-    /// it has at this call, and takes out those for which the closure answers true. The others keep their order and
-    /// what the closure changed. The extensions aren't known to fit the entries then. The storage of paths and all else
-    /// stay. No memory is asked for.
+    /// Calls the closure for every entry, from the first to the last and once each, and removes those for which it
+    /// returns true. The closure gets the entry's path and its index at that call. The other entries keep their order,
+    /// with the closure's changes. The extensions aren't known to match the entries afterwards. The storage of paths
+    /// and everything else are unchanged. No memory is allocated.
     ///
-    /// Where the closure answers what a test of the record gives, or one of the place and the record, and leaves
-    /// entries as they are, the records after are the filter of those before. A closure that changes flags alone keeps
-    /// a storable state so, and one that leaves each entry's range keeps the paths in the storage.
+    /// If the closure returns a test of the record, or of the index and the record, and changes no entry, the remaining
+    /// records are filtered by it. A closure that changes only flags leaves a storable state storable. One that changes
+    /// no entry's range leaves the paths in the storage.
     pub fn remove_entries<F: FnMut(usize, &[u8], &mut Entry) -> bool>(
         &mut self,
         mut should_remove: F,
@@ -43,8 +43,9 @@ impl State {
         self.parts.extensions_fit = false;
     }
 
-    /// Takes the entry at a place out, counted from 0. The others keep their order, and the extensions aren't known to fit
-    /// them; the storage of paths, its own among them, and all else stay.
+    /// Removes the entry at an index, counted from 0, and returns it. The other entries keep their order, and the
+    /// extensions aren't known to match them. The storage of paths, including that of the entry, and everything else
+    /// are unchanged.
     pub fn remove_entry_at_index(&mut self, index: usize) -> Entry
         requires { index < length (entries_of self.old) }
         ensures { TakesOut index self.old self.new result }

@@ -1,14 +1,15 @@
-//! Entries whose stat would be trusted too soon.
+//! Entries whose stat data would be trusted too soon.
 
 ghost use Rattle.std.specs.Prelude.{◌≡◌, map};
 ghost use Rattle.index_state.specs.Racy.{smudged_entry, smudged_stat};
 ghost use Rattle.index_state.specs.StateEdits.{Smudges};
 
 use crate::State;
-use index_entries::Entry;
-use index_metadata::entry::{FileTime, Mode, Stat};
+use entry_fields::entry::{FileTime, Mode, Stat};
+use entry_list::Entry;
 
-/// The stat of an entry with this mode, with size 0 where an index of this time leaves it in doubt.
+/// Returns the stat of an entry with this mode. Its size is set to 0 if the file may have changed since an index of
+/// this time was written.
 fn smudged_stat(time: FileTime, mode: Mode, stat: Stat) -> Stat
     ensures { result ≡ smudged_stat time mode.0 stat }
 {
@@ -18,7 +19,7 @@ fn smudged_stat(time: FileTime, mode: Mode, stat: Stat) -> Stat
     stat
 }
 
-/// Gives each entry that stat.
+/// Replaces each entry's stat by the result of [`smudged_stat`].
 fn smudge(entries: &mut [Entry], time: FileTime)
     ensures { entries.new ≡ map (smudged_entry time) entries.old }
 {
@@ -28,12 +29,12 @@ fn smudge(entries: &mut [Entry], time: FileTime)
 }
 
 impl State {
-    /// Sets the size in the stat of each entry to 0, submodules aside, whose file was changed last in the second of
-    /// this time or later: of such a file the stat doesn't tell that it is as it was staged, and git then looks at its
-    /// content (Git's documentation, racy-git, "Racy Git"). All else stays.
+    /// Sets the size to 0 in the stat of each entry whose file was last changed in the second of `time` or later,
+    /// except submodules. The stat of such a file doesn't show that the file is as it was staged. With size 0 git reads
+    /// the file's content (Git's documentation, racy-git, "Racy Git"). Everything else is unchanged.
     ///
-    /// With the time of the index that was read, the entries may be written as an index of any later time: what git
-    /// trusts by its stat then, it trusted in the index that was read.
+    /// If `time` is the time of the index that was read, the entries may be written as an index of any later time. Each
+    /// stat that git trusts then was trusted in the index that was read.
     pub fn smudge_racy(&mut self, time: FileTime)
         ensures { Smudges time self.old self.new }
     {

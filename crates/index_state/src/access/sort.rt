@@ -1,22 +1,23 @@
-//! Putting the entries of a state in order.
+//! Sorts the entries of a state.
 
 ghost use Rattle.std.specs.Prelude.{◌↔◌, false, IsTrue};
-ghost use Rattle.index_entries.specs.Order.{IsStrictlyOrdered};
+ghost use Rattle.entry_list.specs.Order.{IsStrictlyOrdered};
 ghost use Rattle.index_state.specs.State.{records};
 ghost use Rattle.index_state.specs.StateEdits.{Sorts, SortsBy};
 
 use crate::State;
-use index_entries::{Entry, sort};
+use entry_list::{Entry, sort};
 use std::alloc::AllocError;
 use std::cmp::Ordering;
 
 impl State {
-    /// Puts the entries in order by path, then by stage, as a file has them and as searches ask. Those that agree in
-    /// both keep their order. Where they didn't strictly increase, the extensions aren't known to fit them then. The
-    /// storage of paths and all else stay.
+    /// Sorts the entries by path, then by stage, as a file has them and searches require. The sort is stable. If the
+    /// entries didn't strictly increase, the extensions aren't known to match them afterwards. The storage of paths and
+    /// everything else are unchanged.
     ///
-    /// Where they are in order already, they are read twice, nothing moves, and no memory is asked for. After a refusal
-    /// of memory the state is as it was.
+    /// If the entries are already in order, they are read twice, nothing is moved, and no memory is allocated.
+    ///
+    /// The error is an allocation failure. The state is then unchanged.
     pub fn sort_entries(&mut self) -> Result<(), AllocError>
         ensures { Sorts self.old self.new result }
     {
@@ -26,19 +27,19 @@ impl State {
         Ok(())
     }
 
-    /// Whether the entries strictly increase by path, then by stage.
+    /// Returns whether the entries strictly increase by path, then by stage.
     fn is_in_order(&self) -> bool
         ensures { IsTrue result ↔ IsStrictlyOrdered (records self.now) }
     {
         self.slice().first_fall().is_none()
     }
 
-    /// Puts the entries in order by path, then by stage, and those that agree in both in the order of the closure,
-    /// which is asked of such entries alone. What a lawful closure doesn't tell apart keeps its order; any other
-    /// closure leaves the entries in order by path and stage. The extensions aren't known to fit the entries then. The
-    /// storage of paths and all else stay.
+    /// Sorts the entries by path, then by stage, and entries that agree in both by the closure. The closure is called
+    /// only for such entries. Entries that a lawful closure considers equal keep their order. With any other closure
+    /// the entries are still in order by path and stage. The extensions aren't known to match the entries afterwards.
+    /// The storage of paths and everything else are unchanged.
     ///
-    /// The entries are copied first, so that after a refusal of memory the state is as it was.
+    /// The entries are copied first. The error is an allocation failure. The state is then unchanged.
     pub fn sort_entries_by<F: FnMut(&Entry, &Entry) -> Ordering>(
         &mut self,
         compare: F,

@@ -1,18 +1,17 @@
-//! Handing out the storage of paths, and putting one in.
+//! Takes out the storage of paths, and puts one in.
 
 ghost use Rattle.std.specs.Prelude.{◌≡◌, []};
 ghost use Rattle.index_state.specs.State.{storage_of};
 ghost use Rattle.index_state.specs.StateEdits.{HasStorage};
 
 use crate::State;
-use index_entries::PathStorage;
+use entry_list::PathStorage;
 
 impl State {
-    /// Takes the storage of paths out, and leaves an empty one, without asking for memory. The entries stay as they
-    /// are.
+    /// Takes the storage of paths, and leaves an empty one, without allocating. The entries are unchanged.
     ///
-    /// Until a storage that has their paths is put in by [`return_path_backing`](State::return_path_backing), the paths
-    /// of all entries are empty.
+    /// The paths of all entries are empty until a storage with their paths is returned with
+    /// [`return_path_backing`](State::return_path_backing).
     pub fn take_path_backing(&mut self) -> PathStorage
         ensures given { result.items ≡ storage_of self.old }
         ensures emptied { HasStorage [] self.old self.new }
@@ -21,8 +20,8 @@ impl State {
         std::mem::replace(&mut self.parts.path_backing, Vec::new(alloc))
     }
 
-    /// Puts a storage of paths in where there is none. The entries stay as they are: with the storage that was taken
-    /// out they have the paths that they had.
+    /// Puts in a storage of paths when the state has none. The entries are unchanged. With the storage that was taken
+    /// they have their former paths.
     pub fn return_path_backing(&mut self, backing: PathStorage)
         requires { storage_of self.old ≡ [] }
         ensures { HasStorage backing.items self.old self.new }

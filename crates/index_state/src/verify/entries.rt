@@ -1,10 +1,10 @@
-//! Why entries aren't in order.
+//! The errors of the order of entries.
 
 ghost use Rattle.std.specs.Prelude.{◌≡◌};
 ghost use Rattle.index_state.specs.declared.verify.entries.Error.TheVariants.{Memory};
 
 use bstr::BString;
-use index_metadata::entry::Stage;
+use entry_fields::entry::Stage;
 use std::alloc::AllocError;
 use thiserror::Error;
 
@@ -15,18 +15,18 @@ pub enum Error {
     #[error("entry {current_index}, {current_path:?} of stage {current_stage:?}, follows \
          {previous_path:?} of stage {previous_stage:?}, but entries increase by path and stage")]
     OutOfOrder {
-        /// Its place, counted from 0.
+        /// The index of the entry, counted from 0.
         current_index: usize,
-        /// Its path.
+        /// The path of the entry.
         current_path: BString,
-        /// Its stage.
+        /// The stage of the entry.
         current_stage: Stage,
         /// The path of the entry before it.
         previous_path: BString,
-        /// The stage of that.
+        /// The stage of the entry before it.
         previous_stage: Stage,
     },
-    /// There is no memory to name the entries.
+    /// The names of the entries can't be allocated.
     #[error("no memory is left to name the entries that are out of order")]
     Memory,
 }

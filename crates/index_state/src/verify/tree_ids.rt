@@ -1,3 +1,3 @@
-//! How a cached tree and the entries disagree.
+//! How a cache tree and the entries differ.
 
-pub use index_tree_writer::tree_ids::Error;
+pub use tree_encode::tree_ids::Error;

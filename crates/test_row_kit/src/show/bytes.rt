@@ -1,11 +1,12 @@
-//! Bytes and text.
+//! Formats bytes as digits and as text.
 
 use std::fmt::{self, Display, Write};
 
-/// How many equal bytes are told by their number.
+/// The smallest number of equal bytes that is shown as one byte and a count.
 const LONG: usize = 8;
 
-/// Bytes in pieces of digits.
+/// Displays bytes as digits of base 16, in pieces joined by `,`. A run of at least `LONG` equal bytes is a piece
+/// `XX*N`. No bytes are `-`.
 #[derive(Clone, Copy)]
 pub struct Bytes<'a>(pub &'a [u8]);
 
@@ -27,7 +28,7 @@ impl Display for Bytes<'_> {
     }
 }
 
-/// The digits of equal bytes.
+/// Writes a run of equal bytes as digits.
 fn digits<W: Write>(f: &mut fmt::Formatter<W>, run: &[u8]) -> fmt::Result {
     let Some(byte) = run.first() else {
         return Ok(());
@@ -41,8 +42,9 @@ fn digits<W: Write>(f: &mut fmt::Formatter<W>, run: &[u8]) -> fmt::Result {
     Ok(())
 }
 
-/// Bytes as text: a byte that is no letter, digit or sign is two digits behind a backslash, and so are the signs that
-/// have a meaning of their own.
+/// Displays bytes as text. Letters, digits and signs of ASCII are written as they are, except `\`, `{`, `}`, `:` and
+/// `;`. Each other byte is a backslash and two digits. A run of at least `LONG` equal bytes is one byte and `{N}`. No
+/// bytes are `{}`.
 #[derive(Clone, Copy)]
 pub struct Text<'a>(pub &'a [u8]);
 
@@ -58,7 +60,7 @@ impl Display for Text<'_> {
     }
 }
 
-/// The text of equal bytes.
+/// Writes a run of equal bytes as text.
 fn signs<W: Write>(f: &mut fmt::Formatter<W>, run: &[u8]) -> fmt::Result {
     let is_long = run.len() >= LONG;
     let shown = if is_long { 1 } else { run.len() };

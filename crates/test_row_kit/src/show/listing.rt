@@ -1,4 +1,4 @@
-//! Entries, and the ids and stat numbers in them.
+//! Formats entries with their ids and stat numbers.
 
 use super::Text;
 use crate::Lines;
@@ -8,7 +8,7 @@ use gix_index::hash::ObjectId;
 use gix_index::{BitFlags as _, Entry, State};
 use std::fmt::{self, Display};
 
-/// An id by all its digits, or by two where all of its bytes are equal.
+/// Displays an id: two digits if all of its bytes are equal, otherwise all digits.
 #[derive(Clone, Copy)]
 pub struct ShortId(pub ObjectId);
 
@@ -22,7 +22,7 @@ impl Display for ShortId {
     }
 }
 
-/// The numbers of a stat in the order of the index, joined by `,`.
+/// Displays the numbers of a stat in the order of the index, joined by `,`.
 #[derive(Clone, Copy)]
 pub struct StatNumbers(pub Stat);
 
@@ -34,7 +34,7 @@ impl Display for StatNumbers {
     }
 }
 
-/// The time of an entry.
+/// Displays the time of an entry: seconds, a point, nanoseconds.
 #[derive(Clone, Copy)]
 pub struct Seconds(pub Time);
 
@@ -44,7 +44,7 @@ impl Display for Seconds {
     }
 }
 
-/// The time of a file.
+/// Displays the time of a file: seconds, a point, nanoseconds.
 #[derive(Clone, Copy)]
 pub struct FileSeconds(pub FileTime);
 
@@ -54,7 +54,7 @@ impl Display for FileSeconds {
     }
 }
 
-/// The fields of an entry behind its path.
+/// Displays the fields of an entry that follow its path: stage, mode, flags, id, and the stat if it isn't zero.
 #[derive(Clone, Copy)]
 pub struct Fields<'a>(pub &'a Entry);
 
@@ -70,7 +70,7 @@ impl Display for Fields<'_> {
     }
 }
 
-/// An entry with its path, as an item of a list.
+/// Displays an entry with its path, as an item of a list.
 #[derive(Clone, Copy)]
 pub struct Item<'a> {
     pub path: &'a [u8],
@@ -83,7 +83,7 @@ impl Display for Item<'_> {
     }
 }
 
-/// The list of a state's entries.
+/// Appends the line `entries` with the list of a state's entries.
 pub fn entries(out: &mut Lines, state: &State) {
     write!(out, "entries: [");
     for (place, entry) in state.entries().iter().enumerate() {

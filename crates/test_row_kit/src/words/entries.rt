@@ -1,4 +1,4 @@
-//! A list of entries in a word, and the fields of one entry.
+//! Parses a list of entries, and the fields of one entry.
 
 use super::text::text_of;
 use super::{byte_of, digits_of, hex_of, items_of, number_of, octal_of};
@@ -9,7 +9,7 @@ use gix_index::hash::{Kind, ObjectId};
 use gix_index::{BitFlags as _, State};
 use std::alloc::Global;
 
-/// A new state with the entries of a list pushed in their order.
+/// Returns a new state with the entries of a list, pushed in the order of the list.
 pub fn state_of(alloc: Global, kind: Kind, list: &str) -> Result<State, Fault> {
     let mut state = State::new(alloc, kind, FileTime::EPOCH);
     for item in &items_of(alloc, list)? {
@@ -18,7 +18,8 @@ pub fn state_of(alloc: Global, kind: Kind, list: &str) -> Result<State, Fault> {
     Ok(state)
 }
 
-/// Pushes one entry. What is left out is the stage 0, a plain file, no flags, the id of bytes 11, and a stat of zeros.
+/// Pushes one entry. A field that is left out is stage 0, mode 100644, no flags, the id of bytes 11, or a stat of
+/// zeros.
 fn push(alloc: Global, state: &mut State, kind: Kind, item: &str) -> Result<(), Fault> {
     let mut fields = item.split(':');
     let path = text_of(alloc, field_of(fields.next(), ""))?;
@@ -35,7 +36,7 @@ fn push(alloc: Global, state: &mut State, kind: Kind, item: &str) -> Result<(), 
     Ok(())
 }
 
-/// The field, or what it is where it is left out.
+/// Returns the field, or `absent` if the field is missing or empty.
 fn field_of<'a>(field: Option<&'a str>, absent: &'a str) -> &'a str {
     match field {
         Some(field) if !field.is_empty() => field,
@@ -43,7 +44,7 @@ fn field_of<'a>(field: Option<&'a str>, absent: &'a str) -> &'a str {
     }
 }
 
-/// The stage of a digit.
+/// Parses a stage, as one digit.
 pub fn stage_of(word: &str) -> Result<Stage, Fault> {
     match word {
         "0" => Ok(Stage::Unconflicted),
@@ -54,7 +55,7 @@ pub fn stage_of(word: &str) -> Result<Stage, Fault> {
     }
 }
 
-/// The id of all its digits, or that whose bytes are all the one that two digits encode.
+/// Parses an id: all of its digits, or two digits for an id whose bytes are all that one.
 pub fn id_of(alloc: Global, kind: Kind, word: &str) -> Result<ObjectId, Fault> {
     if word.len() > 2 {
         let bytes = digits_of(alloc, word.as_bytes(), "the digits of an id")?;
@@ -70,7 +71,7 @@ pub fn id_of(alloc: Global, kind: Kind, word: &str) -> Result<ObjectId, Fault> {
     }
 }
 
-/// The time of an entry, as its seconds and nanoseconds with a point between.
+/// Parses the time of an entry: seconds and nanoseconds with a point between.
 pub fn time_of(word: &str) -> Result<Time, Fault> {
     let Some((secs, nsecs)) = word.split_once('.') else {
         return Err(Fault::Wrong("a time"));
@@ -81,7 +82,7 @@ pub fn time_of(word: &str) -> Result<Time, Fault> {
     })
 }
 
-/// The stat of its numbers, joined by `,` in the order of the index.
+/// Parses a stat: its numbers in the order of the index, joined by `,`.
 pub fn stat_of(word: &str) -> Result<Stat, Fault> {
     let mut numbers = word.split(',');
     let stat = Stat {

@@ -1,11 +1,15 @@
-//! Text in a word.
+//! Parses text.
 
 use super::{digits_of, number_of};
 use crate::fault::Fault;
 use std::alloc::Global;
 
-/// The bytes of a text, in which two digits of base 16 behind a backslash are one byte, a number in braces behind a
-/// byte says how often it stands in all, and `{}` alone are no bytes.
+/// Returns the bytes of a text:
+///
+/// - A backslash and two digits of base 16 are one byte.
+/// - `{N}` after a byte means that the byte occurs N times in all.
+/// - `{}` alone is no bytes.
+/// - Other characters are their own bytes.
 pub fn text_of(alloc: Global, word: &str) -> Result<Vec<u8>, Fault> {
     let mut bytes = Vec::new(alloc);
     if word == "{}" {
@@ -21,7 +25,8 @@ pub fn text_of(alloc: Global, word: &str) -> Result<Vec<u8>, Fault> {
     Ok(bytes)
 }
 
-/// Puts the last byte as often behind itself as the number says that ends at a brace, and answers the text behind that.
+/// Repeats the last byte, so that it occurs as many times as the number before the brace. Returns the text after the
+/// brace.
 fn repeat_last<'a>(bytes: &mut Vec<u8>, part: &'a str) -> Result<&'a str, Fault> {
     let (Some((times, plain)), Some(last)) = (part.split_once('}'), bytes.last().copied()) else {
         return Err(Fault::Wrong("a byte and a number in braces"));
@@ -44,7 +49,7 @@ fn append_unescaped(alloc: Global, bytes: &mut Vec<u8>, text: &str) -> Result<()
     Ok(())
 }
 
-/// Appends the byte of the two digits at the front, and what stands behind them.
+/// Appends the byte of the first two digits of `part`, and then the rest of `part`.
 fn append_escaped(alloc: Global, bytes: &mut Vec<u8>, part: &[u8]) -> Result<(), Fault> {
     let Some((digits, plain)) = part.split_at_checked(2) else {
         return Err(Fault::Wrong("two digits behind a backslash"));

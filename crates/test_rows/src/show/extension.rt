@@ -1,4 +1,4 @@
-//! The values of extensions, each with a line that tells that there is none.
+//! Formats the values of extensions. For a missing extension, a line has the value `none`.
 
 use gix_index::ewah;
 use gix_index::extension::fs_monitor::Token;
@@ -10,10 +10,11 @@ use std::fmt::{self, Display};
 use test_row_kit::Lines;
 use test_row_kit::show::{Listed, ShortId, Text, yes};
 
-/// How many nodes, directories or positions are printed.
+/// The largest number of nodes, directories or positions that is printed.
 pub const MOST: usize = 100;
 
-/// How many nodes a cached tree has, and the first hundred of them, each before its children.
+/// Appends the number of nodes of a cache tree extension (TREE), and the first [`MOST`] nodes, each before its
+/// children.
 pub fn tree(out: &mut Lines, tree: Option<&Tree>) {
     let Some(tree) = tree else {
         return out.put("tree", "none");
@@ -25,7 +26,7 @@ pub fn tree(out: &mut Lines, tree: Option<&Tree>) {
     }
 }
 
-/// The nodes of a tree, each before its children.
+/// Returns the nodes of a tree, each before its children.
 fn nodes_of<'a>(out: &mut Lines, tree: &'a Tree) -> Vec<&'a Tree> {
     let mut left = Vec::new(out.alloc());
     let mut nodes = Vec::new(out.alloc());
@@ -40,7 +41,7 @@ fn nodes_of<'a>(out: &mut Lines, tree: &'a Tree) -> Vec<&'a Tree> {
     nodes
 }
 
-/// Puts the children of a node on the nodes that are left, the last one first.
+/// Pushes the children of a node onto the stack `left`, the last child first.
 fn push_children<'a>(out: &mut Lines, left: &mut Vec<&'a Tree>, it: &'a Tree) {
     for child in it.children.iter().rev() {
         out.note(left.push(child));
@@ -60,7 +61,7 @@ fn node(out: &mut Lines, place: usize, it: &Tree) {
     );
 }
 
-/// A value, or `-`.
+/// Displays a value, or `-`.
 #[derive(Clone, Copy)]
 struct Dashed<T>(Option<T>);
 
@@ -73,7 +74,7 @@ impl<T: Display> Display for Dashed<T> {
     }
 }
 
-/// Paths with the stages that they had.
+/// Appends the paths of a resolve-undo extension, each with the stages that it had.
 pub fn resolve_undo(out: &mut Lines, paths: Option<&[ResolvePath]>) {
     let Some(paths) = paths else {
         return out.put("resolve_undo", "none");
@@ -92,7 +93,7 @@ fn undo(out: &mut Lines, place: usize, path: &ResolvePath) {
     writeln!(out);
 }
 
-/// What a stage was.
+/// Displays the mode and the id of a stage.
 #[derive(Clone, Copy)]
 struct Undone<'a>(&'a Stage);
 
@@ -102,7 +103,7 @@ impl Display for Undone<'_> {
     }
 }
 
-/// A file system monitor: its token, and the places of the entries that are dirty.
+/// Appends the token of a file system monitor, and the indices of the dirty entries.
 pub fn monitor(out: &mut Lines, monitor: Option<&FsMonitor>) {
     let Some(monitor) = monitor else {
         return out.put("fs_monitor", "none");
@@ -114,7 +115,7 @@ pub fn monitor(out: &mut Lines, monitor: Option<&FsMonitor>) {
     bitmap(out, "fs_monitor entry_dirty ", monitor.entry_dirty());
 }
 
-/// The blocks of an offset table.
+/// Appends the blocks of an offset table.
 pub fn offsets(out: &mut Lines, blocks: Option<&[Offset]>) {
     let Some(blocks) = blocks else {
         return out.put("offsets", "none");
@@ -129,7 +130,7 @@ pub fn offsets(out: &mut Lines, blocks: Option<&[Offset]>) {
     writeln!(out, "]");
 }
 
-/// A link to a shared index, and the entries of that one which are left out and replaced.
+/// Appends the checksum of the shared index of a link, and which entries of that index are deleted and replaced.
 pub fn link(out: &mut Lines, link: Option<&Link>) {
     let Some(link) = link else {
         return out.put("link", "none");
@@ -142,7 +143,7 @@ pub fn link(out: &mut Lines, link: Option<&Link>) {
     }
 }
 
-/// The number of bits of a bitmap, and the first hundred of its positions, in lines whose names begin with the label.
+/// Appends the number of bits of a bitmap, and its first [`MOST`] positions. The names of the lines begin with `label`.
 pub fn bitmap(out: &mut Lines, label: &str, bitmap: &ewah::Vec) {
     writeln!(out, "{label}num_bits: {}", bitmap.num_bits());
     let mut places = Vec::new(out.alloc());
@@ -152,7 +153,7 @@ pub fn bitmap(out: &mut Lines, label: &str, bitmap: &ewah::Vec) {
     writeln!(out, "{label}positions: {}", Listed(&places));
 }
 
-/// A position of a bitmap, or `malformed`.
+/// Displays a position of a bitmap, or `malformed`.
 #[derive(Clone, Copy)]
 struct Position(Option<u64>);
 

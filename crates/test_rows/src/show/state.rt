@@ -1,4 +1,4 @@
-//! A state with all that was read of it.
+//! Formats a state with all values that were read.
 
 use super::{extension, untracked};
 use gix_index::State;
@@ -6,7 +6,7 @@ use gix_index::hash::ObjectId;
 use test_row_kit::Lines;
 use test_row_kit::show::{Item, OrNone, kind_of, version_of, yes};
 
-/// The id at a file's end, what is told of the whole, and how many entries there are.
+/// Appends the id at the end of the file, the properties of the state, and the number of entries.
 pub fn heading(out: &mut Lines, state: &State, checksum: Option<ObjectId>) {
     out.put("checksum", OrNone(checksum));
     out.put("version", version_of(state.version()));
@@ -20,7 +20,7 @@ pub fn heading(out: &mut Lines, state: &State, checksum: Option<ObjectId>) {
     out.put("entries", state.entries().len());
 }
 
-/// All that a state tells.
+/// Appends all values of a state: its heading, its entries and its extensions.
 pub fn state(out: &mut Lines, state: &State, checksum: Option<ObjectId>) {
     heading(out, state, checksum);
     for (place, entry) in state.entries().iter().enumerate() {

@@ -1,4 +1,4 @@
-//! Untracked caches.
+//! Formats untracked caches.
 
 use super::extension::MOST;
 use gix_index::entry::Stat;
@@ -8,7 +8,7 @@ use std::fmt::{self, Display};
 use test_row_kit::Lines;
 use test_row_kit::show::{Listed, OrNone, StatNumbers, Text, yes};
 
-/// An untracked cache with the first hundred of its directories, which stand in preorder.
+/// Appends the values of an untracked cache, and the first [`MOST`] of its directories in preorder.
 pub fn untracked(out: &mut Lines, cache: Option<&UntrackedCache>) {
     let Some(cache) = cache else {
         return out.put("untracked", "none");
@@ -31,7 +31,7 @@ pub fn untracked(out: &mut Lines, cache: Option<&UntrackedCache>) {
     }
 }
 
-/// A file by its id and its stat numbers.
+/// Displays a file: its id and its stat numbers.
 #[derive(Clone, Copy)]
 struct File<'a>(&'a OidStat);
 

@@ -1,4 +1,5 @@
--- The places that the library gives, of which the entries are lent, are all those below the directory.
+-- The range of indices that the library returns has exactly the entries below the directory. These entries are
+-- borrowed.
 use Rattle.std.proofs.Common.{rules, ◌≡◌, ◌++◌, ◌∷◌, List, [], Option, Some, None, refl, ap}
 use Rattle.std.proofs.Common.{subst, ◌∙◌}
 use Rattle.std.specs.Option.{option_copied, unwrap_or}
@@ -9,7 +10,7 @@ use Rattle.gix_index.specs.Range.{IsPrefixRange, part_of}
 use Rattle.gix_index.proofs.RunFilters.{directory_is_filter, lent_is_part, map_part}
 use Rattle.examples.proofs.checkout.entries_below.Goals as goal
 
--- the slice behind the loan, or the empty one
+-- the slice that is borrowed, or the empty one
 now_of : {X : Type 0} (lent : Option (Bor (List X))) (none : Bor (List X)) → none.now ≡ []
     → (unwrap_or lent none).now ≡ unwrap_or (option_copied lent) []
 now_of None none e = e

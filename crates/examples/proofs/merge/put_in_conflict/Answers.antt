@@ -1,11 +1,11 @@
--- The closure tells by the path which entries go, and changes none. The three stages stand behind what is left, and the
--- sort moves them.
+-- The closure removes entries by their path, and changes none. The three stages follow the entries that are left, and
+-- the sort moves them.
 use Rattle.std.proofs.Common.{◌≡◌, rules, List, subst, sym, IsPermutation}
 use Rattle.std.proofs.lemmas.Fn.{always_returns_same}
 use Rattle.gix_index.specs.Range.{is_at}
 use Rattle.gix_index.specs.Record.{Record}
 use Rattle.gix_index.specs.State.{records}
-use Rattle.examples.specs.Conflict.{elsewhere, stage_of}
+use Rattle.examples.specs.Conflict.{elsewhere, side_record}
 use Rattle.examples.proofs.Stages.{on_ok, three_pushed}
 use Rattle.examples.proofs.merge.put_in_conflict.Goals as goal
 
@@ -22,7 +22,7 @@ returns-clause-exactly c = λ placed.
     let two = c.in_ok-push_side-2.ensures.placed one in
     let pushed = three_pushed (records c.remove_entries.new.self) (records c.push_side.new.state)
     (records c.push_side-2.new.state) (records c.push_side-3.new.state)
-    (stage_of path 1 c.args.base) (stage_of path 2 c.args.ours) (stage_of path 3 c.args.theirs)
+    (side_record path 1 c.args.base) (side_record path 2 c.args.ours) (side_record path 3 c.args.theirs)
     (c.in_ok-push_side.ensures.pushed left) (c.in_ok-push_side-2.ensures.pushed one)
     (c.in_ok-push_side-3.ensures.pushed two) in
     let P : List Record → Type 0 = λ l. IsPermutation l (records c.sort_entries.new.self) in

@@ -1,4 +1,4 @@
--- The first fall among the sorted entries is where two of them have one path.
+-- At the first descent among the sorted entries, two of them have one path.
 use Rattle.std.proofs.lemmas.Result.{err_from_is_err_and}
 use Rattle.gix_index.specs.State.{records}
 use Rattle.examples.proofs.Neighbours.{says_twice}

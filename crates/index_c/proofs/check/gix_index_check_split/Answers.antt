@@ -1,9 +1,9 @@
 use Rattle.std.proofs.Common.{◌⊎◌, rules}
 use Rattle.gix_index.specs.Kind.{Kind}
 use Rattle.index_c.specs.Checking.{AreSoundBoth, AreUnsoundBoth}
-use Rattle.index_numbers.specs.Joined.{AreRefusedBoth, LackMemory}
-use Rattle.index_table.specs.Joining.{AreReadSo}
-use Rattle.index_table.proofs.Joins.{both_weaker}
+use Rattle.capi_codes.specs.Joined.{AreRefusedBoth, LackMemory}
+use Rattle.capi_table.specs.Joining.{AreReadSo}
+use Rattle.capi_table.proofs.Joins.{both_weaker}
 use Rattle.index_c.proofs.Checks.{both_lack, both_refused}
 use Rattle.index_c.proofs.Tellings.{sound_told, with_kind}
 use Rattle.index_c.proofs.check.gix_index_check_split.Goals as goal

@@ -3,9 +3,9 @@ use Rattle.std.specs.List.{HoldsAt}
 use Rattle.std.proofs.lemmas.List.{length-map}
 use Rattle.gix_index.specs.Range.{is_at}
 use Rattle.gix_index.specs.Record.{Record}
-use Rattle.index_lookups.proofs.Closest.{any_here, closest_at, closest_below}
-use Rattle.index_lookups.proofs.RunsFound.{rising_prefixes}
-use Rattle.index_table.specs.Table.{records_of, spelled}
+use Rattle.entry_lookup.proofs.Closest.{any_here, closest_at, closest_below}
+use Rattle.entry_lookup.proofs.RunsFound.{rising_prefixes}
+use Rattle.capi_table.specs.Table.{records_of, spelled}
 use Rattle.index_c.proofs.Directories.{below_stands, none_at, parted_at}
 use Rattle.index_c.proofs.closest.closest_place.Goals as goal
 use Rattle.index_c.proofs.closest.closest_place.Goals.{else-low-rows-via-then-low-rows+else-has_path}

@@ -5,12 +5,12 @@ use Rattle.std.specs.declared.cmp.Ordering.{Ordering}
 use Rattle.std.proofs.lemmas.List.{length-map}
 use Rattle.gix_index.specs.Closest.{is_below}
 use Rattle.gix_index.specs.Record.{Record}
-use Rattle.index_lookups.proofs.Closest.{below_first, below_found}
-use Rattle.index_lookups.proofs.RunsFound.{split_prefixes}
-use Rattle.index_search.specs.Prefix.{prefix_cmp}
-use Rattle.index_search.proofs.OrderedAnswers.{equal_at, gap_at, rising_of}
-use Rattle.index_search.proofs.Parting.{bracket_whole}
-use Rattle.index_table.specs.Table.{records_of, spelled}
+use Rattle.entry_lookup.proofs.Closest.{below_first, below_found}
+use Rattle.entry_lookup.proofs.RunsFound.{split_prefixes}
+use Rattle.base_search.specs.Prefix.{prefix_cmp}
+use Rattle.base_search.proofs.OrderedAnswers.{equal_at, gap_at, rising_of}
+use Rattle.base_search.proofs.Parting.{bracket_whole}
+use Rattle.capi_table.specs.Table.{records_of, spelled}
 use Rattle.index_c.proofs.closest.first_below.Goals as goal
 
 pub returns : goal.returns

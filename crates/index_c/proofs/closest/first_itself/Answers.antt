@@ -3,7 +3,7 @@ use Rattle.std.specs.List.{HoldsAt}
 use Rattle.std.proofs.lemmas.List.{length-map}
 use Rattle.gix_index.specs.Closest.{is_directory, is_itself}
 use Rattle.gix_index.specs.Record.{Record}
-use Rattle.index_table.specs.Table.{records_of, spelled}
+use Rattle.capi_table.specs.Table.{records_of, spelled}
 use Rattle.index_c.proofs.Directories.{itself_at, none_itself, none_past}
 use Rattle.index_c.proofs.RowsAt.{row_gives, within_more}
 use Rattle.index_c.proofs.closest.first_itself.Goals as goal

@@ -1,7 +1,7 @@
 use Rattle.std.proofs.Common.{◌≡◌, false}
 use Rattle.std.specs.List.{AllWithin}
 use Rattle.gix_index.specs.Closest.{is_itself}
-use Rattle.index_table.specs.Table.{records_of}
+use Rattle.capi_table.specs.Table.{records_of}
 use Rattle.index_c.proofs.closest.first_itself.Given as goal
 
 abbrev pub invariant-loop-place : goal.invariant-loop-place

@@ -1,7 +1,7 @@
 use Rattle.std.proofs.Common.{arith}
 use Rattle.std.proofs.lemmas.List.{length-map}
 use Rattle.gix_index.specs.Order.{key_cmp}
-use Rattle.index_table.specs.Table.{records_of, spelled}
+use Rattle.capi_table.specs.Table.{records_of, spelled}
 use Rattle.index_c.proofs.Finds.{bound_is}
 use Rattle.index_c.proofs.find.gix_index_lower_bound.Goals as goal
 

@@ -1,12 +1,12 @@
 use Rattle.std.proofs.Common.{◌≡◌, arith, rules}
 use Rattle.gix_index.specs.Contents.{Contents}
 use Rattle.gix_index.specs.Kind.{Kind}
-use Rattle.index_numbers.specs.Summaries.{IsRefusedIndex, IsUnread}
-use Rattle.index_numbers.specs.Summaries.{IsToldWith}
-use Rattle.index_table.specs.Reading.{FailsOwn, IsReadSo}
-use Rattle.index_table.specs.Reading.{Fills, IsTooSmall}
-use Rattle.index_table.proofs.Joins.{read_weaker}
-use Rattle.index_numbers.proofs.Refusals.{refused_from, unread_from}
+use Rattle.capi_codes.specs.Summaries.{IsRefusedIndex, IsUnread}
+use Rattle.capi_codes.specs.Summaries.{IsSummaryWith}
+use Rattle.capi_table.specs.Reading.{FailsOwn, IsReadSo}
+use Rattle.capi_table.specs.Reading.{Fills, IsTooSmall}
+use Rattle.capi_table.proofs.Joins.{read_weaker}
+use Rattle.capi_codes.proofs.Refusals.{refused_from, unread_from}
 use Rattle.index_c.proofs.Tellings.{done_told, failure_told, kept_told, no_room_told, with_kind}
 use Rattle.index_c.proofs.read.gix_index_read.Goals as goal
 
@@ -19,7 +19,7 @@ returns c =
             c.args.paths.now
             c.read_table-read.new.paths in
             with_kind c.args.kind (λ (k : Kind). IsReadSo c.args.skip_hash k c.args.bytes.now
-            (IsToldWith c.tell.new.summary
+            (IsSummaryWith c.tell.new.summary
             F)) c.in-Some.kind c.in-Some.ensures
             (done_told (IsReadSo c.args.skip_hash c.in-Some.kind c.args.bytes.now) (read_weaker c.args.skip_hash
             c.in-Some.kind c.args.bytes.now)
@@ -46,7 +46,7 @@ returns c =
             f.1 is);
         no_room = λ is. let F : Contents → Type 0 = λ v. IsTooSmall v c.args.rows.now c.args.paths.now in
             with_kind c.args.kind (λ (k : Kind). IsReadSo c.args.skip_hash k c.args.bytes.now
-            (IsToldWith c.tell.new.summary
+            (IsSummaryWith c.tell.new.summary
             F)) c.in-Some.kind c.in-Some.ensures
             (no_room_told (IsReadSo c.args.skip_hash c.in-Some.kind c.args.bytes.now) (read_weaker c.args.skip_hash
             c.in-Some.kind c.args.bytes.now)

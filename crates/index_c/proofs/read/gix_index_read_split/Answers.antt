@@ -1,12 +1,12 @@
 use Rattle.std.proofs.Common.{◌≡◌, arith, rules}
 use Rattle.gix_index.specs.Contents.{Contents}
 use Rattle.gix_index.specs.Kind.{Kind}
-use Rattle.index_numbers.specs.Joined.{AreRefusedBoth, LackMemory}
-use Rattle.index_numbers.specs.Summaries.{IsToldWith}
-use Rattle.index_table.specs.Joining.{AreReadSo, FailBoth}
-use Rattle.index_table.specs.Reading.{Fills, IsTooSmall}
-use Rattle.index_table.proofs.Joins.{both_weaker}
-use Rattle.index_numbers.proofs.Refusals.{lack_both, refused_both}
+use Rattle.capi_codes.specs.Joined.{AreRefusedBoth, LackMemory}
+use Rattle.capi_codes.specs.Summaries.{IsSummaryWith}
+use Rattle.capi_table.specs.Joining.{AreReadSo, FailBoth}
+use Rattle.capi_table.specs.Reading.{Fills, IsTooSmall}
+use Rattle.capi_table.proofs.Joins.{both_weaker}
+use Rattle.capi_codes.proofs.Refusals.{lack_both, refused_both}
 use Rattle.index_c.proofs.Tellings.{done_told, failure_told, kept_told, no_room_told, with_kind}
 use Rattle.index_c.proofs.read.gix_index_read_split.Goals as goal
 
@@ -19,7 +19,7 @@ returns c =
             c.args.paths.now
             c.read_split-read.new.paths in
             with_kind c.args.kind (λ (k : Kind). AreReadSo c.args.skip_hash k c.args.bytes.now c.args.shared.now
-            (IsToldWith
+            (IsSummaryWith
             c.tell.new.summary F)) c.in-Some.kind c.in-Some.ensures
             (done_told (AreReadSo c.args.skip_hash c.in-Some.kind c.args.bytes.now c.args.shared.now) (both_weaker
             c.args.skip_hash c.in-Some.kind c.args.bytes.now c.args.shared.now)
@@ -47,7 +47,7 @@ returns c =
             c.args.shared.now f.1 is);
         no_room = λ is. let F : Contents → Type 0 = λ v. IsTooSmall v c.args.rows.now c.args.paths.now in
             with_kind c.args.kind (λ (k : Kind). AreReadSo c.args.skip_hash k c.args.bytes.now c.args.shared.now
-            (IsToldWith
+            (IsSummaryWith
             c.tell.new.summary F)) c.in-Some.kind c.in-Some.ensures
             (no_room_told (AreReadSo c.args.skip_hash c.in-Some.kind c.args.bytes.now c.args.shared.now) (both_weaker
             c.args.skip_hash c.in-Some.kind c.args.bytes.now c.args.shared.now)

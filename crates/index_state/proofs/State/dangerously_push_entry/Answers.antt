@@ -1,16 +1,16 @@
 use Rattle.std.proofs.Common.{refl, ap, ◌≡◌, inl, inr, length, List, rules, sym, subst}
-use Rattle.index_entries.specs.Record.{IsSized, Record}
+use Rattle.entry_list.specs.Record.{IsSized, Record}
 use Rattle.index_parts.specs.Id.{id_bytes, id_kind, id_len}
-use Rattle.index_format.specs.Storable.{IsStorable}
+use Rattle.index_model.specs.Storable.{IsStorable}
 use Rattle.index_state.specs.Edits.{edited}
 use Rattle.index_state.specs.State.{contents, entries_of, storage_of}
-use Rattle.index_entries.proofs.Appended.{appended_placed, appended_records}
-use Rattle.index_entries.proofs.StorableEntries.{variant_of}
+use Rattle.entry_list.proofs.Appended.{appended_placed, appended_records}
+use Rattle.entry_list.proofs.StorableEntries.{variant_of}
 use Rattle.index_state.proofs.Storables.{appended_ids, push_storable}
 use Rattle.index_state.proofs.State.dangerously_push_entry.Goals as goal
 
--- The types of the arguments say how many bits a number has and how many bytes an id: `given` is what they say, one
--- argument after the other, and so is each part of it for the fields of a struct.
+-- The types of the arguments bound the bits of each number and the bytes of an id. `non_empty` is that, one argument
+-- after the other. So is each part of it for the fields of a struct.
 pub returns : goal.returns
 returns c =
     let old = c.args.self.now in

@@ -1,4 +1,4 @@
-use Rattle.index_lookups.specs.Range.{HasStageOf}
+use Rattle.entry_lookup.specs.Range.{HasStageOf}
 use Rattle.index_state.specs.State.{entries_of, storage_of}
 use Rattle.index_state.proofs.Given.{entry_with, given_place}
 use Rattle.index_state.proofs.State.entry_by_path.Goals as goal

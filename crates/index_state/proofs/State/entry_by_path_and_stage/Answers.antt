@@ -1,7 +1,7 @@
-use Rattle.index_metadata.specs.Flags.{stage_code}
+use Rattle.entry_fields.specs.Flags.{stage_code}
 use Rattle.index_state.specs.State.{entries_of, storage_of}
-use Rattle.index_lookups.specs.Lookup.{HasKey}
-use Rattle.index_lookups.proofs.Lookup.{entry_place}
+use Rattle.entry_lookup.specs.Lookup.{HasKey}
+use Rattle.entry_lookup.proofs.Lookup.{entry_place}
 use Rattle.index_state.proofs.Given.{entry_with}
 use Rattle.index_state.proofs.State.entry_by_path_and_stage.Goals as goal
 

@@ -1,5 +1,5 @@
 use Rattle.std.proofs.Common.{◌≡◌, true}
-use Rattle.index_lookups.specs.Closest.{stands_in}
+use Rattle.entry_lookup.specs.Closest.{stands_in}
 use Rattle.index_state.specs.State.{entries_of, storage_of}
 use Rattle.index_state.proofs.Given.{entry_with, given_place}
 use Rattle.index_state.proofs.State.entry_closest_to_directory_or_directory.Goals as goal

@@ -1,10 +1,10 @@
 use Rattle.std.proofs.Common.{◌<◌, length, refl, sym, arith}
 use Rattle.std.proofs.lemmas.List.{length-map}
-use Rattle.index_metadata.specs.Flags.{stage_code}
-use Rattle.index_entries.specs.Record.{record_in}
+use Rattle.entry_fields.specs.Flags.{stage_code}
+use Rattle.entry_list.specs.Record.{record_in}
 use Rattle.index_state.specs.Edits.{IsUnchanged}
 use Rattle.index_state.specs.State.{entries_of, storage_of}
-use Rattle.index_lookups.proofs.Lookup.{entry_key, entry_place}
+use Rattle.entry_lookup.proofs.Lookup.{entry_key, entry_place}
 use Rattle.index_state.proofs.State.entry_mut_by_path_and_stage.Goals as goal
 
 pub returns : goal.returns

@@ -2,12 +2,12 @@ use Rattle.std.proofs.Common.{◌≡◌, ◌∙◌, ap, rules, sym, subst}
 use Rattle.index_parts.specs.Id.{id_kind}
 use Rattle.index_parts.specs.declared.hash.Kind.{Kind}
 use Rattle.index_state.specs.Edits.{empty_contents, with_records}
-use Rattle.index_format.specs.Contents.{Contents}
+use Rattle.index_model.specs.Contents.{Contents}
 use Rattle.index_state.specs.State.{contents, records}
-use Rattle.index_format.specs.Storable.{IsStorable}
+use Rattle.index_model.specs.Storable.{IsStorable}
 use Rattle.index_state.specs.declared.State.{State}
 use Rattle.index_state.proofs.Storables.{fitting_storable}
-use Rattle.index_tree_reader.proofs.Fits.{leaves_fit}
+use Rattle.tree_decode.proofs.Fits.{leaves_fit}
 use Rattle.index_state.proofs.State.from_tree.Goals as goal
 
 pub returns-clause-made : goal.returns-clause-made

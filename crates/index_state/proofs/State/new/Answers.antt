@@ -1,8 +1,8 @@
 use Rattle.std.proofs.Common.{◌≡◌, rules, sym, subst, true}
 use Rattle.index_state.specs.Edits.{empty_contents}
 use Rattle.index_state.specs.State.{contents}
-use Rattle.index_format.specs.Storable.{IsStorable}
-use Rattle.index_entries.specs.declared.Version.TheVariants.{V2}
+use Rattle.index_model.specs.Storable.{IsStorable}
+use Rattle.entry_list.specs.declared.Version.TheVariants.{V2}
 use Rattle.index_state.proofs.Storables.{empty_storable}
 use Rattle.index_state.proofs.State.new.Goals as goal
 

@@ -1,5 +1,5 @@
-use Rattle.index_entries.specs.Record.{records_in}
-use Rattle.index_entries.proofs.RemovedFilters.{left_but_flags, left_by_place, left_filtered, left_placed}
+use Rattle.entry_list.specs.Record.{records_in}
+use Rattle.entry_list.proofs.RemovedFilters.{left_but_flags, left_by_place, left_filtered, left_placed}
 use Rattle.index_state.specs.State.{contents, storage_of}
 use Rattle.index_state.proofs.FewerEntries.{flags_storable}
 use Rattle.index_state.proofs.State.remove_entries.Goals as goal

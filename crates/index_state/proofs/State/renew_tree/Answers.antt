@@ -1,6 +1,6 @@
 use Rattle.std.proofs.Common.{[], Option, rules, subst}
-use Rattle.index_cached_tree.specs.Tree.{Node, node_of}
-use Rattle.index_tree_writer.specs.Kept.{KeepsCounts}
+use Rattle.ext_tree.specs.Tree.{Node, node_of}
+use Rattle.tree_encode.specs.Kept.{KeepsCounts}
 use Rattle.index_state.proofs.CachedTrees.{nodes_lent}
 use Rattle.index_state.proofs.State.renew_tree.Goals as goal
 

@@ -1,8 +1,8 @@
 use Rattle.std.proofs.Common.{◌≡◌, All, List, ap, length, map, rules, subst, sym, ◌∙◌}
 use Rattle.std.proofs.lemmas.List.{length-map}
-use Rattle.index_entries.specs.Record.{IdsAreOf, IsPlaced, Record, records_in}
-use Rattle.index_entries.specs.declared.Entry.{Entry}
-use Rattle.index_format.specs.Storable.{IsStorable}
+use Rattle.entry_list.specs.Record.{IdsAreOf, IsPlaced, Record, records_in}
+use Rattle.entry_list.specs.declared.Entry.{Entry}
+use Rattle.index_model.specs.Storable.{IsStorable}
 use Rattle.index_state.specs.Edits.{with_entries, with_records}
 use Rattle.index_state.specs.Racy.{MayBeTrusted, smudged, smudged_entry}
 use Rattle.index_state.specs.State.{contents, entries_of, records, storage_of}

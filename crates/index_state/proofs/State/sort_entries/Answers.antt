@@ -1,6 +1,6 @@
 use Rattle.std.proofs.Common.{length, rules}
 use Rattle.std.proofs.lemmas.List.Sorted.{All-permutation, IsPermutation-map}
-use Rattle.index_entries.specs.Record.{IsPlaced, record_in, records_in}
+use Rattle.entry_list.specs.Record.{IsPlaced, record_in, records_in}
 use Rattle.index_state.specs.State.{contents, entries_of, storage_of}
 use Rattle.index_state.proofs.Verified.{fit_stays, unfit}
 use Rattle.index_state.proofs.Storables.{permuted_storable}

@@ -1,6 +1,6 @@
 use Rattle.std.proofs.Common.{false, length, rules}
 use Rattle.std.proofs.lemmas.List.Sorted.{All-permutation, IsPermutation-map}
-use Rattle.index_entries.specs.Record.{IsPlaced, record_in, records_in}
+use Rattle.entry_list.specs.Record.{IsPlaced, record_in, records_in}
 use Rattle.index_state.specs.State.{contents, entries_of, storage_of}
 use Rattle.index_state.proofs.Storables.{permuted_storable}
 use Rattle.index_state.proofs.State.sort_entries_by.Goals as goal

@@ -1,7 +1,7 @@
 use Rattle.std.proofs.Common.{Some}
 use Rattle.std.proofs.lemmas.Bool.{false≢true}
 use Rattle.std.proofs.lemmas.Result.{err_from_is_err_and}
-use Rattle.index_entries.specs.Sorted.{IsFirstFall}
+use Rattle.entry_list.specs.Sorted.{IsFirstFall}
 use Rattle.index_state.specs.State.{records}
 use Rattle.index_state.proofs.Verified.{not_ordered}
 use Rattle.index_state.proofs.State.verify_entries.Goals as goal

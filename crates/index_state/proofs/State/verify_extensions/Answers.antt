@@ -1,8 +1,8 @@
 use Rattle.std.proofs.Common.{rules, ◌≡◌, Ok, Option, Some, None, IfErr, length, refl, subst, sym}
-use Rattle.index_cached_tree.specs.Sound.{IsSoundTree}
-use Rattle.index_cached_tree.specs.Tree.{Node, node_of}
-use Rattle.index_cached_tree.proofs.Agreements.{some_trees}
-use Rattle.index_cached_tree.specs.TreeFaults.{SaysTree}
+use Rattle.ext_tree.specs.Sound.{IsSoundTree}
+use Rattle.ext_tree.specs.Tree.{Node, node_of}
+use Rattle.ext_tree.proofs.Agreements.{some_trees}
+use Rattle.ext_tree.specs.TreeFaults.{NodeCause}
 use Rattle.index_state.specs.SoundState.{extensions_fault}
 use Rattle.index_state.specs.State.{contents, entries_of}
 use Rattle.index_state.proofs.VerifiedTrees.{later_fault, judged_later}
@@ -21,7 +21,7 @@ returns-clause-fault g c = λ unused.
     let sound : IsSoundTree t = (c.in_ok-verify.ensures.sound unused).0 refl in
     let count : c.len.result ≡ length (entries_of c.args.self.now) = search rules in
     subst (λ (o : Option Node). IfErr c.verify_counts.result
-    (λ e. SaysTree e (extensions_fault (length (entries_of c.args.self.now)) None o))) (sym there)
+    (λ e. NodeCause e (extensions_fault (length (entries_of c.args.self.now)) None o))) (sym there)
     (later_fault c.verify_counts.result (length (entries_of c.args.self.now)) t sound
     (rw count at c.verify_counts.ensures.fault))
 

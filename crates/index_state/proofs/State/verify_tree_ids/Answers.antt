@@ -1,6 +1,6 @@
 use Rattle.std.proofs.Common.{ℕ, List, ap, rules, ◌∙◌}
-use Rattle.index_cached_tree.specs.Tree.{node_of}
-use Rattle.index_entries.specs.Record.{records_in}
+use Rattle.ext_tree.specs.Tree.{node_of}
+use Rattle.entry_list.specs.Record.{records_in}
 use Rattle.index_state.specs.State.{contents, records, storage_of}
 use Rattle.index_state.proofs.CachedTrees.{says_of_tree}
 use Rattle.index_state.proofs.State.verify_tree_ids.Goals as goal

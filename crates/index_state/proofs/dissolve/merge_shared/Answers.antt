@@ -1,6 +1,6 @@
 use Rattle.std.proofs.Common.{rules, ◌≡◌, None, refl, ap}
 use Rattle.std.specs.Option.{option_map}
-use Rattle.index_split.specs.Link.{link_of, pair_of}
+use Rattle.ext_split.specs.Link.{link_of, pair_of}
 use Rattle.index_state.specs.State.{contents, entries_of, storage_of}
 use Rattle.index_state.proofs.Merges.{dissolved_by, merged_ids, merged_storable, says_dissolve}
 use Rattle.index_state.proofs.dissolve.merge_shared.Goals as goal

@@ -1,5 +1,5 @@
 use Rattle.std.proofs.Common.{arith, string_bytes, refl}
-use Rattle.index_words.specs.Commands.{command_value}
+use Rattle.tool_args.specs.Commands.{command_value}
 use Rattle.index_tool.proofs.Found.{done_there, not_found, refused_there}
 use Rattle.index_tool.proofs.Said.{said_done, said_refused, said_wrong, wrong_unasked}
 use Rattle.index_tool.proofs.command.run_in.Goals as goal
@@ -26,11 +26,11 @@ returns-in-Ok-find-clause-ends g c =
       nothing_opened = λ h. absurd (omega (arith, ends.status, h));
       untouched = λ h. absurd (omega (arith, ends.status, h));
       done = λ h. done_there c.args.around.now _ _ _ _ _ (command_value c.in-Ok.command) c.in-Ok.ensures _ _
-          c.named-kind.ensures.kind c.named-kind.ensures.input c.in-Ok-find.index.kind
+          c.kind_and_place-kind.ensures.kind c.kind_and_place-kind.ensures.input c.in-Ok-find.index.kind
           (string_bytes c.in-Ok-find.index.path) c.in-Ok-find.ensures.found _ _ _ _ _ leaves.alone leaves.guards
           leaves.known (ends.done h);
       refused = λ h. refused_there c.args.around.now _ _ _ _ _ (command_value c.in-Ok.command) c.in-Ok.ensures
-          _ _ c.named-kind.ensures.kind c.named-kind.ensures.input c.in-Ok-find.index.kind
+          _ _ c.kind_and_place-kind.ensures.kind c.kind_and_place-kind.ensures.input c.in-Ok-find.index.kind
           (string_bytes c.in-Ok-find.index.path) c.in-Ok-find.ensures.found _ _ _ _ _ leaves.alone leaves.works
           leaves.known (ends.refused h) (ends.spared h);
     }
@@ -43,6 +43,6 @@ returns-in-Err-find-clause-ends g c = record {
   untouched = λ h. absurd (omega (arith, h));
   done = λ h. absurd (omega (arith, h));
   refused = λ h. not_found c.args.around.now _ _ _ (g.O.Out.taken c.args.out.now) _ (command_value c.in-Ok.command)
-      c.in-Ok.ensures _ _ c.named-kind.ensures.kind c.named-kind.ensures.input _ _ c.in-Err-find.fault
+      c.in-Ok.ensures _ _ c.kind_and_place-kind.ensures.kind c.kind_and_place-kind.ensures.input _ _ c.in-Err-find.fault
       c.in-Err-find.ensures.fault c.find.ensures.leaves.known;
 }

@@ -1,10 +1,10 @@
-use Rattle.index_commands.specs.Checking.{FailsToPass}
-use Rattle.index_commands.specs.Listing.{FailsToList}
-use Rattle.index_commands.specs.Trees.{FailsToTree}
-use Rattle.index_failures.specs.Reading.{FailsReading, SaysOfBytes}
-use Rattle.index_telling.specs.Mapping.{FailsToMap}
-use Rattle.index_telling.specs.Showing.{SaysOfFileAlone}
-use Rattle.index_words.specs.declared.command.Reading.TheVariants as readings
+use Rattle.tool_edit.specs.Checking.{FailsToPass}
+use Rattle.tool_edit.specs.Listing.{FailsToList}
+use Rattle.tool_edit.specs.Trees.{FailsToTree}
+use Rattle.tool_errors.specs.Reading.{FailsReading, BytesCause}
+use Rattle.tool_inspect.specs.Mapping.{FailsToMap}
+use Rattle.tool_inspect.specs.Showing.{FileAloneCause}
+use Rattle.tool_args.specs.declared.command.Reading.TheVariants as readings
 use Rattle.index_tool.specs.Outcome.{plain_checks, tree_checks}
 use Rattle.index_tool.proofs.Endings.{telling_refused}
 use Rattle.index_tool.proofs.command.tell.Goals as goal
@@ -52,7 +52,7 @@ returns-in-MapSvg g c =
     rw c.in-MapSvg.is (record {
       told = c.map_svg.ensures.told;
       refused = telling_refused (g.D.Folder.known c.args.folder.now)
-          (FailsReading (SaysOfBytes (g.D.Folder.works c.args.folder.now) (g.D.Folder.known c.args.folder.now) c.args.path.now) c.args.path.now)
+          (FailsReading (BytesCause (g.D.Folder.works c.args.folder.now) (g.D.Folder.known c.args.folder.now) c.args.path.now) c.args.path.now)
           readings.MapSvg c.args.kind c.args.path.now _ _ _ c.map_svg.result c.map_svg.ensures.refused;
     })
 
@@ -61,17 +61,18 @@ returns-in-Show g c =
     rw c.in-Show.is (record {
       told = c.show.ensures.told;
       refused = telling_refused (g.D.Folder.known c.args.folder.now)
-          (FailsReading (SaysOfFileAlone (g.D.Folder.works c.args.folder.now) (g.D.Folder.known c.args.folder.now) c.args.kind c.args.path.now) c.args.path.now)
+          (FailsReading (FileAloneCause (g.D.Folder.works c.args.folder.now) (g.D.Folder.known c.args.folder.now) c.args.kind c.args.path.now) c.args.path.now)
           readings.Show c.args.kind c.args.path.now _ _ _ c.show.result c.show.ensures.refused;
     })
 
 pub returns-in-ShowJson : goal.returns-in-ShowJson
 returns-in-ShowJson g c =
     rw c.in-ShowJson.is (record {
-      told = c.show_json.ensures.told;
+      told = c.show-in-ShowJson.ensures.told;
       refused = telling_refused (g.D.Folder.known c.args.folder.now)
-          (FailsReading (SaysOfFileAlone (g.D.Folder.works c.args.folder.now) (g.D.Folder.known c.args.folder.now) c.args.kind c.args.path.now) c.args.path.now)
-          readings.ShowJson c.args.kind c.args.path.now _ _ _ c.show_json.result c.show_json.ensures.refused;
+          (FailsReading (FileAloneCause (g.D.Folder.works c.args.folder.now) (g.D.Folder.known c.args.folder.now) c.args.kind c.args.path.now) c.args.path.now)
+          readings.ShowJson c.args.kind c.args.path.now _ _ _ c.show-in-ShowJson.result
+          c.show-in-ShowJson.ensures.refused;
     })
 
 pub returns-in-Trees : goal.returns-in-Trees

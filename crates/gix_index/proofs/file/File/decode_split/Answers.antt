@@ -1,10 +1,10 @@
 use Rattle.std.proofs.Common.{sym, ap, ◌∙◌, refl, subst}
 use Rattle.std.proofs.lemmas.Result.{err_from_is_err_and}
-use Rattle.index_split.specs.Link.{link_of}
-use Rattle.index_state.specs.Dissolve.{IsDissolved, SaysDissolve}
-use Rattle.index_format.specs.Contents.{Contents}
+use Rattle.ext_split.specs.Link.{link_of}
+use Rattle.index_state.specs.Dissolve.{IsDissolved, DissolveCause}
+use Rattle.index_model.specs.Contents.{Contents}
 use Rattle.index_state.specs.State.{PathsInStorage, contents}
-use Rattle.index_format.specs.Storable.{IsStorable}
+use Rattle.index_model.specs.Storable.{IsStorable}
 use Rattle.gix_index.specs.Disk.{disk_in_hand}
 use Rattle.gix_index.specs.File.{checksum_of, state_of}
 use Rattle.gix_index.specs.Linked.{joined, own}
@@ -67,7 +67,7 @@ returns-in_err-dissolve_into-clause-fault c =
       followed = link.followed;
     })
     (record { bytes = a.shared.now; held = refl; read = c.in_ok-index.ensures.answer })
-    (subst (λ (v : Contents). SaysDissolve e (link_of c.in-Some.link) (contents (state_of index)) v) t.removed
+    (subst (λ (v : Contents). DissolveCause e (link_of c.in-Some.link) (contents (state_of index)) v) t.removed
     (rw c.into_parts-shared.ensures.state at c.in_err-dissolve_into.ensures.fault)))
 
 pub returns-clause-read : goal.returns-clause-read

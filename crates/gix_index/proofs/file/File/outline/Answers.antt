@@ -1,7 +1,7 @@
 use Rattle.std.proofs.Common.{Err, Ok}
 use Rattle.std.proofs.lemmas.Result.{err_from_is_err_and}
-use Rattle.index_format.specs.Answer.{IsAnswer, IsBehindHeader}
-use Rattle.index_format.proofs.Answers.{body_late}
+use Rattle.index_model.specs.Answer.{IsAnswer, IsBehindHeader}
+use Rattle.index_model.proofs.Answers.{body_late}
 use Rattle.gix_index.proofs.Checks.{error_says, to_file}
 use Rattle.index_outline.proofs.OutlineFaults.{says_weaker}
 use Rattle.index_outline.proofs.Outlines.{read_storable}

@@ -3,7 +3,7 @@ use Rattle.std.specs.Prelude.{codes}
 use Rattle.std.specs.Path.{path_bytes, path_buf_bytes}
 use Rattle.index_state.specs.State.{contents}
 use Rattle.gix_index.specs.File.{path_of, state_of}
-use Rattle.index_file_faults.specs.WriteFaults.{SaysOfReplacing}
+use Rattle.file_errors.specs.WriteFaults.{ReplaceCause}
 use Rattle.gix_index.proofs.Puts.{put_over}
 use Rattle.gix_index.proofs.file.File.replace.Goals as goal
 
@@ -19,7 +19,7 @@ returns-in-Err-fill-clause-fault g c =
     let path = path_of c.args.self.now in
     let before = Some (g.D.Folder.known c.args.folder.now (path ++ codes ".lock")) in
     let v = contents (state_of c.args.self.now) in
-    subst (λ (l : List ℕ). SaysOfReplacing before works l path v c.args.options c.put_fault.result) c.in_ok-lock.ensures
+    subst (λ (l : List ℕ). ReplaceCause before works l path v c.args.options c.put_fault.result) c.in_ok-lock.ensures
     (c.put_fault.ensures before works path v c.args.options c.in-Err-fill.ensures.fault)
 
 pub returns-clause-fault : goal.returns-clause-fault

@@ -2,7 +2,7 @@ use Rattle.std.proofs.Common.{◌∙◌, ap, rules}
 use Rattle.std.proofs.lemmas.Result.{err_from_is_err_and}
 use Rattle.index_parts.proofs.Ids.{id_bytes-make_id}
 use Rattle.index_parts.specs.Id.{id_bytes}
-use Rattle.index_format.specs.Image.{body, trailer}
+use Rattle.index_model.specs.Image.{body, trailer}
 use Rattle.index_state.specs.State.{contents}
 use Rattle.gix_index.specs.File.{state_of}
 use Rattle.gix_index.proofs.Files.{fails_more, front_then}

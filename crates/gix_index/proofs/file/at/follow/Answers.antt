@@ -1,10 +1,10 @@
 use Rattle.std.proofs.Common.{refl, sym, ap, ◌∙◌, subst}
 use Rattle.std.proofs.lemmas.Result.{err_from_is_err_and}
-use Rattle.index_split.specs.Link.{link_of}
-use Rattle.index_state.specs.Dissolve.{IsDissolved, SaysDissolve}
-use Rattle.index_format.specs.Contents.{Contents}
+use Rattle.ext_split.specs.Link.{link_of}
+use Rattle.index_state.specs.Dissolve.{IsDissolved, DissolveCause}
+use Rattle.index_model.specs.Contents.{Contents}
 use Rattle.index_state.specs.State.{contents}
-use Rattle.index_format.specs.Storable.{IsStorable}
+use Rattle.index_model.specs.Storable.{IsStorable}
 use Rattle.gix_index.specs.Disk.{disk_beside}
 use Rattle.gix_index.specs.File.{path_of, state_of, checksum_of}
 use Rattle.gix_index.specs.Linked.{own, joined}
@@ -56,7 +56,7 @@ returns-in_err-dissolve_into-clause-fault g c =
       followed = link.followed;
     })
     s.1
-    (subst (λ (v : Contents). SaysDissolve e (link_of c.in-Some.link) (contents c.in_ok-shared.shared) v) t.removed
+    (subst (λ (v : Contents). DissolveCause e (link_of c.in-Some.link) (contents c.in_ok-shared.shared) v) t.removed
     c.in_err-dissolve_into.ensures.fault))
 
 pub returns-clause-read : goal.returns-clause-read

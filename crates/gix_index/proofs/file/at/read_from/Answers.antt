@@ -3,11 +3,11 @@ use Rattle.std.proofs.lemmas.Bool.{false≢true}
 use Rattle.std.proofs.lemmas.Result.{err_from_is_err_and}
 use Rattle.std.specs.Prelude.{IsTrue}
 use Rattle.std.specs.Path.{path_bytes, path_buf_bytes}
-use Rattle.index_folder.specs.World.{Known, MayBeMissing}
+use Rattle.file_place.specs.World.{Known, MayBeMissing}
 use Rattle.gix_index.specs.Disk.{disk_beside, known_of, shared_path}
 use Rattle.index_state.specs.State.{contents}
 use Rattle.gix_index.specs.File.{IsEmptyFile, checksum_of, path_of, state_of}
-use Rattle.gix_index.proofs.FileFaults.{fault_followed, file_read, of_own, read_followed}
+use Rattle.gix_index.proofs.FileFaults.{call_says, fault_followed, file_read, of_own, read_followed}
 use Rattle.gix_index.proofs.ReadsBy.{fault_at, own_fault_at, read_at}
 use Rattle.gix_index.proofs.file.at.read_from.Goals as goal
 
@@ -20,8 +20,9 @@ returns-in-Err-2-clause-fault g c =
     let path = path_buf_bytes c.args.path in (
       r.timestamp,
       λ _. refl,
-      of_own r.skip_hash r.object_hash r.timestamp r.options path works (disk_beside own world path) c.read_fault.result
-          (c.read_fault.ensures works own c.in-Err.ensures.fault r.skip_hash r.object_hash r.timestamp r.options),
+      of_own r.skip_hash r.object_hash r.timestamp r.options path works (disk_beside own world path) c.of.result
+          (call_says path c.in-Err.e c.of.result c.of.ensures works own c.in-Err.ensures.fault r.skip_hash
+          r.object_hash r.timestamp r.options),
     )
 
 pub returns-in-Err-time_of-clause-fault : goal.returns-in-Err-time_of-clause-fault
@@ -34,7 +35,8 @@ returns-in-Err-time_of-clause-fault g c =
       r.timestamp,
       λ _. refl,
       of_own r.skip_hash r.object_hash r.timestamp r.options path works (disk_beside own world path)
-          c.read_fault-in-Err-time_of.result (c.read_fault-in-Err-time_of.ensures works own
+          c.of-in-Err-time_of.result (call_says path c.in-Err-time_of.e c.of-in-Err-time_of.result
+          c.of-in-Err-time_of.ensures works own
           (λ is. absurd (false≢true (rw c.in-Err-time_of.is at (c.time_of.ensures.succeeds (c.in-Ok.ensures.works is)))))
           r.skip_hash r.object_hash r.timestamp r.options),
     )
@@ -68,7 +70,8 @@ returns-clause-read g c =
     c.follow.result c.in-Ok.ensures.opened c.in-Ok-time_of.ensures.time
     (rw c.in_ok-read.ensures.formed.path at (read_followed r.skip_hash r.object_hash time r.options
     (λ (k : Known). disk_beside k world (path_of index)) (known_of stored) (contents (state_of index))
-    (checksum_of index) c.follow.result (file_read _ (known_of stored) false _ c.in_ok-read.ensures.read) c.follow.ensures.read))
+    (checksum_of index) c.follow.result (file_read _ (known_of stored) false _ c.in_ok-read.ensures.read)
+    c.follow.ensures.read))
 
 pub returns-clause-fault : goal.returns-clause-fault
 returns-clause-fault g c =

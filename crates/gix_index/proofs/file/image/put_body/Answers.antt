@@ -3,7 +3,7 @@ use Rattle.std.proofs.lemmas.Grind.{common_steps}
 use Rattle.index_parts.specs.Digest.{digest}
 use Rattle.index_parts.specs.Id.{make_id}
 use Rattle.index_parts.specs.declared.hash.Kind.{Kind}
-use Rattle.index_format.specs.Image.{body}
+use Rattle.index_model.specs.Image.{body}
 use Rattle.index_state.specs.State.{contents}
 use Rattle.gix_index.proofs.Files.{hashed_id}
 use Rattle.gix_index.proofs.file.image.put_body.Goals as goal

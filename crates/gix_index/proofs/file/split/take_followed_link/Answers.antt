@@ -1,6 +1,6 @@
 use Rattle.std.proofs.Common.{sym, ap, ◌∙◌, subst}
 use Rattle.std.specs.Option.{option_map}
-use Rattle.index_split.specs.Link.{link_of}
+use Rattle.ext_split.specs.Link.{link_of}
 use Rattle.gix_index.specs.Linked.{IsUnfollowed}
 use Rattle.gix_index.proofs.file.split.take_followed_link.Goals as goal
 

@@ -1,9 +1,10 @@
 use Rattle.std.proofs.Common.{List, Option, subst, ℕ, ◌∙◌}
-use Rattle.index_folder.specs.Sizes.{IsOwnFault}
-use Rattle.index_folder.specs.World.{Stored, whole_of}
-use Rattle.index_window.specs.Answers.{IsAllOf}
+use Rattle.file_place.specs.Sizes.{IsOwnFault}
+use Rattle.file_place.specs.World.{Stored, whole_of}
+use Rattle.file_windows.specs.Answers.{IsAllOf}
 use Rattle.gix_index.proofs.Checks.{refused_says, to_file}
-use Rattle.gix_index.proofs.FileFaults.{fault_of_open, held_by}
+use Rattle.std.specs.Path.{path_buf_bytes}
+use Rattle.gix_index.proofs.FileFaults.{call_says, fault_of_open, held_by}
 use Rattle.gix_index.proofs.file.unfollowed.read_file.Goals as goal
 
 pub returns-in-Ok-Some-clause-read : goal.returns-in-Ok-Some-clause-read
@@ -19,11 +20,13 @@ returns-in-Ok-Some-clause-read g c =
     )
 
 pub returns-in-Err-clause-fault : goal.returns-in-Err-clause-fault
-returns-in-Err-clause-fault g c = c.read_fault.ensures _ _
+returns-in-Err-clause-fault g c = call_says (path_buf_bytes c.args.path) c.in-Err.e c.of.result c.of.ensures _ _
     (λ is. fault_of_open (g.S.Source.stored c.args.file) c.in-Err.e (c.in-Err.ensures.fault is)) _ _ _ _
 
 pub returns-in-Err-bytes_of-clause-fault : goal.returns-in-Err-bytes_of-clause-fault
-returns-in-Err-bytes_of-clause-fault g c = c.read_fault-in-Err-bytes_of.ensures _ _
+returns-in-Err-bytes_of-clause-fault g c =
+    call_says (path_buf_bytes c.args.path) c.in-Err-bytes_of.e c.of-in-Err-bytes_of.result
+    c.of-in-Err-bytes_of.ensures _ _
     (λ is. fault_of_open (g.S.Source.stored c.args.file) c.in-Err-bytes_of.e
     (subst (λ (s : Option Stored). IsOwnFault (whole_of s) c.in-Err-bytes_of.e) c.in_windows.ensures.left.stored
     (c.in-Err-bytes_of.ensures.fault (c.in_windows.ensures.left.works ∙ is)))) _ _ _ _

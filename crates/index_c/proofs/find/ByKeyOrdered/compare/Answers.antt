@@ -1,8 +1,8 @@
 use Rattle.std.proofs.Common.{arith}
 use Rattle.std.proofs.lemmas.List.{length-map}
 use Rattle.gix_index.specs.Order.{key_cmp}
-use Rattle.index_search.proofs.Places.{mapped_at}
-use Rattle.index_table.specs.Table.{records_of, spelled}
+use Rattle.base_search.proofs.Places.{mapped_at}
+use Rattle.capi_table.specs.Table.{records_of, spelled}
 use Rattle.index_c.proofs.RowsAt.{row_gives}
 use Rattle.index_c.proofs.find.ByKeyOrdered.compare.Goals as goal
 

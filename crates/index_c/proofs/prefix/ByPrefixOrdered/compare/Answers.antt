@@ -1,7 +1,7 @@
 use Rattle.std.proofs.Common.{◌++◌, arith}
 use Rattle.gix_index.specs.Record.{Record}
-use Rattle.index_search.specs.Prefix.{prefix_cmp}
-use Rattle.index_search.proofs.Places.{mapped_at}
+use Rattle.base_search.specs.Prefix.{prefix_cmp}
+use Rattle.base_search.proofs.Places.{mapped_at}
 use Rattle.index_c.proofs.Prefixes.{many_answers}
 use Rattle.index_c.proofs.RowsAt.{row_gives}
 use Rattle.index_c.proofs.prefix.ByPrefixOrdered.compare.Goals as goal

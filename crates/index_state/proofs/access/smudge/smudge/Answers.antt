@@ -1,6 +1,6 @@
 use Rattle.std.proofs.Common.{◌<◌, ap, get_or, length, arith, ◌∙◌}
 use Rattle.std.proofs.lemmas.List.{length-set}
-use Rattle.index_metadata.specs.declared.entry.stat.Stat.{Stat}
+use Rattle.entry_fields.specs.declared.entry.stat.Stat.{Stat}
 use Rattle.index_state.specs.Racy.{smudged_entry}
 use Rattle.index_state.proofs.Smudges.{one_more, others_stay}
 use Rattle.index_state.proofs.access.smudge.smudge.Goals as goal

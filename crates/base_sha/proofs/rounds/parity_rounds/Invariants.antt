@@ -1,0 +1,7 @@
+use Rattle.std.proofs.Common.{◌≡◌, ℕ, List, ◌+◌, ◌*◌}
+use Rattle.sha1.specs.Sha1.{rounds}
+use Rattle.base_sha.specs.Lanes.{IsKeyed}
+use Rattle.base_sha.proofs.rounds.parity_rounds.Given as goal
+
+abbrev pub invariant-loop-turn : goal.invariant-loop-turn
+invariant-loop-turn l = (h ws : List ℕ) → IsKeyed l.keyed l.j ws → l.fn.v ≡ rounds h ws l.from → l.v ≡ rounds h ws (l.from + 5 * l.turn)

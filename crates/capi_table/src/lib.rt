@@ -1,0 +1,18 @@
+//! Tables in a caller's memory: the entries of an index as rows, and the bytes with their paths.
+//!
+//! An index is read into a table, with or without the shared index that it links to. A table is written as an index,
+//! with or without what is preserved of the index that it replaces. Or its rows are changes of an index. Calls keep no
+//! state. They take and return values; `index_c` has the numbers for callers in C.
+#![tactic(auto)]
+
+pub mod fault;
+mod filling;
+pub mod folded;
+pub mod over;
+pub mod read;
+pub mod row;
+mod same;
+pub mod spell;
+pub mod split;
+pub mod update;
+pub mod write;

@@ -1,0 +1,9 @@
+use Rattle.std.proofs.Common.{length}
+use Rattle.entry_lookup.specs.Searches.{IsHalving}
+use Rattle.entry_lookup.proofs.SearchAnswers.{path_answer}
+use Rattle.entry_lookup.proofs.search.search_path.Goals as goal
+
+pub returns : goal.returns
+returns c =
+    let rs = c.args.entries.now in
+    path_answer (IsHalving (length rs)) c.args.path.now rs c.search.result c.search.ensures

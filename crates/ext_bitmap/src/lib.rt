@@ -1,0 +1,5 @@
+//! Bitmaps of the extensions of an index file.
+#![tactic(auto)]
+
+pub mod ewah;
+pub mod ranges;

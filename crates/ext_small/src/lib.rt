@@ -1,0 +1,8 @@
+//! Decodes the small extensions: resolve-undo, file system monitor and offset table (gitformat-index, "Extensions").
+#![tactic(auto)]
+
+pub mod fs_monitor;
+pub mod index_entry_offset_table;
+pub mod resolve_undo;
+
+pub use fs_monitor::FsMonitor;

@@ -1,0 +1,7 @@
+//! Errors of reading, writing, locking and verifying an index file.
+#![tactic(auto)]
+
+pub mod init;
+pub mod lock;
+pub mod verify;
+pub mod write;

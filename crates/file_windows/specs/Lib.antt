@@ -1,0 +1,9 @@
+pub mod Abridged
+pub mod Answers
+pub mod Counted
+pub mod Entries
+pub mod Intact
+pub mod Marked
+pub mod Passed
+pub mod ReadWhole
+pub mod Windowed

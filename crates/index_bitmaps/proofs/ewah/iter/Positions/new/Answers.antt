@@ -1,9 +1,0 @@
-use Rattle.std.proofs.Common.{refl}
-use Rattle.index_bitmaps.proofs.Places.{lists_unpacked, listed_ascend}
-use Rattle.index_bitmaps.proofs.ewah.iter.Positions.new.Goals as goal
-
-pub returns-clause-places : goal.returns-clause-places
-returns-clause-places c = lists_unpacked _ c.args.words.now refl
-
-pub returns-clause-ascending : goal.returns-clause-ascending
-returns-clause-ascending c = listed_ascend _ c.args.words.now (returns-clause-places c)

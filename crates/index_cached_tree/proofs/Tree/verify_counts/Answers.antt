@@ -1,7 +1,0 @@
-use Rattle.index_cached_tree.specs.Tree.{node_of}
-use Rattle.index_cached_tree.proofs.Excesses.{within_by}
-use Rattle.index_cached_tree.proofs.Tree.verify_counts.Goals as goal
-
-pub returns-clause-within : goal.returns-clause-within
-returns-clause-within c = within_by c.check_counts.result c.args.entries
-    (node_of c.args.self.now) c.check_counts.ensures.ok c.check_counts.ensures.err

@@ -1,4 +1,0 @@
-mod Endings
-mod Timed
-mod Trailers
-mod Updated

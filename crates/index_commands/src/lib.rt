@@ -1,9 +1,0 @@
-//! The commands of `index-tool` that read an index with its shared one, and list, check or write it.
-#![tactic(auto)]
-
-pub mod check;
-pub mod list;
-pub mod rewrite;
-pub mod rewrite_trees;
-pub mod trees;
-pub mod update;

@@ -1,7 +1,0 @@
-use Rattle.std.proofs.Common.{arith}
-use Rattle.index_digest.specs.Blocks.{block}
-use Rattle.index_digest.proofs.Lanes.{column}
-use Rattle.index_digest.proofs.Sha1ValueHashValue.compress.Goals as goal
-
-pub returns : goal.returns
-returns c = λ group keyed. c.compress.ensures (block group c.args.j) (column c.args.keyed.now group c.args.j (omega arith) keyed)

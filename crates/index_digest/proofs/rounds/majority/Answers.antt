@@ -1,8 +1,0 @@
-use Rattle.std.proofs.Common.{slice_index}
-use Rattle.index_digest.proofs.Functions.{maj_by_wrapping_sum}
-use Rattle.index_digest.proofs.rounds.majority.Goals as goal
-
-pub returns : goal.returns
-returns c = λ k w made.
-    rw (maj_by_wrapping_sum (slice_index c.args.v.now 1) (slice_index c.args.v.now 2) (slice_index c.args.v.now 3) (c.fits-v 1) (c.fits-v 3))
-    at (c.round.ensures k w made)

@@ -1,7 +1,0 @@
-use Rattle.std.proofs.Common.{arith, refl}
-use Rattle.index_digest.proofs.Functions256.{rotated_within}
-use Rattle.index_digest.proofs.sha256.rounds.big_sigma0.Goals as goal
-
-pub returns : goal.returns
-returns c = rw (c.rotate_right-3.ensures, c.rotate_right-2.ensures, c.rotate_right.ensures)
-    (rotated_within c.args.x 2 11 9 13 22 (omega arith) (omega arith) (omega arith) (omega arith) refl refl (omega arith))

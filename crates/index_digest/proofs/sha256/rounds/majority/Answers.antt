@@ -1,5 +1,0 @@
-use Rattle.index_digest.proofs.Functions256.{maj_by_two_xors}
-use Rattle.index_digest.proofs.sha256.rounds.majority.Goals as goal
-
-pub returns : goal.returns
-returns c = maj_by_two_xors c.args.x c.args.y c.args.z

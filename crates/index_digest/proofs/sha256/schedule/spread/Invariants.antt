@@ -1,6 +1,0 @@
-use Rattle.std.proofs.Common.{◌*◌}
-use Rattle.index_digest.specs.Lanes256.{IsSpread}
-use Rattle.index_digest.proofs.sha256.schedule.spread.Given as goal
-
-abbrev pub invariant-loop-turn : goal.invariant-loop-turn
-invariant-loop-turn l = IsSpread l.words l.keyed l.group (4 * l.turn)

@@ -1,8 +1,0 @@
-use Rattle.std.proofs.Common.{◌≡◌, ◌==◌, false}
-use Rattle.std.specs.List.{AllWithin}
-use Rattle.index_objects.specs.Mode.{directory_mode}
-use Rattle.index_edits.proofs.wholes.has_whole.Given as goal
-
-abbrev pub invariant-loop-place : goal.invariant-loop-place
-invariant-loop-place l =
-    AllWithin (λ r. (r.mode == directory_mode) ≡ false) l.entries l.initial.place l.place

@@ -1,7 +1,0 @@
-use Rattle.std.proofs.Common.{take}
-use Rattle.index_entries.specs.EntryImage.{LackNul}
-use Rattle.index_entries.specs.Record.{records_in}
-use Rattle.index_entries.proofs.paths.paths_without_nul.Given as goal
-
-abbrev pub invariant-loop-entry : goal.invariant-loop-entry
-invariant-loop-entry l = LackNul (records_in l.storage (take l.entry-index l.entries))

@@ -1,8 +1,0 @@
-use Rattle.std.proofs.Common.{take, sym, ap, ◌∙◌}
-use Rattle.std.specs.List.{take-map}
-use Rattle.index_entries.specs.Record.{record_in}
-use Rattle.index_entries.proofs.slice.EntrySlice.first.Goals as goal
-
-pub returns : goal.returns
-returns c = sym (take-map (record_in c.self.inside.storage.now) c.args.len c.self.inside.entries.now)
-    ∙ ap (take c.args.len) c.self.view_is

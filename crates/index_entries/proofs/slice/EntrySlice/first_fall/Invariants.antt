@@ -1,6 +1,0 @@
-use Rattle.std.specs.List.{AllAdjacentBelow}
-use Rattle.index_entries.proofs.Falls.{Rises}
-use Rattle.index_entries.proofs.slice.EntrySlice.first_fall.Given as goal
-
-abbrev pub invariant-loop-i : goal.invariant-loop-i
-invariant-loop-i l = AllAdjacentBelow Rises l.self l.i

@@ -1,6 +1,0 @@
-//! Reading the entries of a git index file: one by one as lent pieces, or as a list (gitformat-index, "Index entry").
-#![tactic(auto)]
-
-pub mod entries;
-pub mod entry;
-pub mod reader;

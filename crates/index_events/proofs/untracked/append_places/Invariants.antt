@@ -1,9 +1,0 @@
-use Rattle.std.proofs.Common.{◌≡◌, ℕ, ◌++◌, take}
-use Rattle.index_events.specs.Untracked.{subdirectory_events}
-use Rattle.index_events.proofs.Listed.{all_shown}
-use Rattle.index_events.proofs.untracked.append_places.Given as goal
-
--- the places before this one were told
-abbrev pub invariant-loop-index : goal.invariant-loop-index
-invariant-loop-index g l = l.text.bytes.items
-    ≡ l.fn.text.bytes.items ++ all_shown g.P.Printer.spell subdirectory_events (λ (n : ℕ). n) (take l.index l.places)

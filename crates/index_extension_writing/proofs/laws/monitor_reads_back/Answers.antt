@@ -1,8 +1,0 @@
-use Rattle.index_extension_writing.proofs.WrittenMonitors.{monitor_there, monitor_spellable}
-use Rattle.index_extension_writing.proofs.laws.monitor_reads_back.Goals as goal
-
-pub returns-clause-read : goal.returns-clause-read
-returns-clause-read c = monitor_there
-
-pub returns-clause-spellable : goal.returns-clause-spellable
-returns-clause-spellable c = monitor_spellable

@@ -1,9 +1,0 @@
-use Rattle.std.proofs.Common.{ap, ◌∙◌}
-use Rattle.std.specs.List.{list_all}
-use Rattle.index_extension_writing.specs.SpellableCache.{has_names}
-use Rattle.index_extension_writing.proofs.WrittenSizes.{directories_all}
-use Rattle.index_extension_writing.proofs.untracked_cache.is_spellable.Goals as goal
-
-pub returns : goal.returns
-returns c = c.have_names.ensures ∙ directories_all c.directories.result.now
-    ∙ ap (λ l. list_all has_names l) c.directories.ensures

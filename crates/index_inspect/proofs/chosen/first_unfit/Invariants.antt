@@ -1,6 +1,0 @@
-use Rattle.std.proofs.Common.{take}
-use Rattle.index_inspect.specs.Accepted.{AreAcceptable}
-use Rattle.index_inspect.proofs.chosen.first_unfit.Given as goal
-
-abbrev pub invariant-loop-place : goal.invariant-loop-place
-invariant-loop-place l = AreAcceptable l.kind (take l.place l.entries)

@@ -1,6 +1,0 @@
-use Rattle.std.proofs.Common.{◌≡◌, take}
-use Rattle.index_inspect.specs.Remains.{last_link}
-use Rattle.index_inspect.proofs.remains.last_link.Given as goal
-
-abbrev pub invariant-loop-part : goal.invariant-loop-part
-invariant-loop-part l = l.found ≡ last_link (take l.part-index l.parts)

@@ -1,8 +1,0 @@
-use Rattle.std.proofs.Common.{◌≡◌, take}
-use Rattle.std.specs.Bool.{OnTrue}
-use Rattle.json.specs.Print.{escape}
-use Rattle.index_json.proofs.values.stand_for_themselves.Given as goal
-
--- the bytes before this one stand for themselves
-abbrev pub invariant-loop-byte : goal.invariant-loop-byte
-invariant-loop-byte l = OnTrue l.all (escape (take l.byte-index l.bytes) ≡ take l.byte-index l.bytes)

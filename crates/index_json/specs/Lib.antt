@@ -1,3 +1,0 @@
-pub mod EntryValues
-pub mod Json
-pub mod Values

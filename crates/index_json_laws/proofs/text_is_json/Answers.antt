@@ -1,5 +1,0 @@
-use Rattle.index_json_laws.proofs.Printed.{spelling_is_json}
-use Rattle.index_json_laws.proofs.text_is_json.Goals as goal
-
-pub returns : goal.returns
-returns c = spelling_is_json

@@ -1,9 +1,0 @@
-use Rattle.std.proofs.Common.{length}
-use Rattle.index_lookups.specs.Searches.{IsHalving}
-use Rattle.index_lookups.proofs.SearchAnswers.{staged_answer}
-use Rattle.index_lookups.proofs.search.search_path_and_stage.Goals as goal
-
-pub returns : goal.returns
-returns c =
-    let rs = c.args.entries.now in
-    staged_answer (IsHalving (length rs)) c.args.path.now rs c.search.result c.args.stage c.search.ensures

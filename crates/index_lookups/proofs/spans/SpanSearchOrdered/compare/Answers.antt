@@ -1,7 +1,0 @@
-use Rattle.index_lookups.specs.NameSteps.{outer_cmp}
-use Rattle.index_lookups.proofs.TableSearch.{span_at}
-use Rattle.index_lookups.proofs.spans.SpanSearchOrdered.compare.Goals as goal
-
-pub returns : goal.returns
-returns c = span_at (λ x. outer_cmp x.name c.args.self.now.name.now) c.args.self.now.spans.now c.args.place _
-    c.compare_names.result c.requires c.compare_names.ensures

@@ -1,6 +1,0 @@
-//! What is known of a file beside its path and its id: flags, modes and stat numbers.
-#![tactic(auto)]
-
-pub mod entry;
-pub mod fs;
-pub mod read;

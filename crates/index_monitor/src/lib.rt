@@ -1,5 +1,0 @@
-//! What a file system monitor said of the entries of an index, after changes of them (gitformat-index, "File System Monitor
-//! cache").
-#![tactic(auto)]
-
-pub mod dirty;

@@ -1,8 +1,0 @@
--- Modes in octal digits (ASCII), as resolve-undo has them (gitformat-index, "Resolve undo").
-use Rattle.std.specs.Prelude.{◌≡◌, ℕ, List, ◌∷◌}
-use Rattle.index_parts.specs.Octal.{IsOctal}
-
--- text is a mode: an octal number, with a plus or nothing before it
-pub data IsMode (text : List ℕ) (n : ℕ) : Type 0 where
-  plain : IsOctal text n → IsMode text n
-  plus : (digits : List ℕ) → text ≡ 43 ∷ digits → IsOctal digits n → IsMode text n

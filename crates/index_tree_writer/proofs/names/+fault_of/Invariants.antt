@@ -1,4 +1,0 @@
-use Rattle.index_tree_writer.proofs.names.+fault_of.Given as goal
-
-abbrev pub decreases-fault_of : goal.decreases-fault_of
-decreases-fault_of g l = l.levels

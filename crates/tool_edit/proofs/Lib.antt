@@ -1,0 +1,5 @@
+mod Begun
+mod Endings
+mod Timed
+mod Trailers
+mod Updated

@@ -1,0 +1,5 @@
+pub mod EntryValues
+pub mod Json
+pub mod Lines
+pub mod Names
+pub mod Values

@@ -1,0 +1,5 @@
+pub mod Entries
+pub mod Fields
+pub mod Show
+pub mod Untracked
+pub mod Words
