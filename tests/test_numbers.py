@@ -1,7 +1,7 @@
 """The numbers that callers see are those of the proved crates: in the headers of c/ and in rust/src.
 
-`capi_codes` has statuses, faults and what becomes of a cached tree, `capi_table` the kinds of a row and the row
-itself, `capi_trees` a tree, and `entry_fields` stages, modes and flags. A header names each, except those in
+`index_c` has statuses, faults and what becomes of a cached tree, `capi_table` the kinds of a row and the row
+itself, `capi_table` a tree, and `entry_fields` stages, modes and flags. A header names each, except those in
 OWN. Other names of the headers are of calls that the library hasn't, as of files, which no proved call opens: these
 are other statuses, and the same limits as in rust/src. The fields of each struct are the same, in the same order.
 """
@@ -40,10 +40,10 @@ def proved():
     const, bits = r"^pub const (\w+): u32 = ([^;]+);", r"^ +const (\w+) = (0[xo]\w+);"
     table = {}
     for crate, file, front in (
-        ("capi_codes", "status", ""),
-        ("capi_codes", "number", ""),
-        ("capi_codes", "summary", ""),
-        ("capi_codes", "fault", "FAULT_"),
+        ("index_c", "status", ""),
+        ("index_c", "number", ""),
+        ("index_c", "summary", ""),
+        ("index_c", "fault", "FAULT_"),
         ("capi_table", "row", ""),
     ):
         table |= constants(const, f"crates/{crate}/src/{file}.rt", front)
@@ -98,7 +98,7 @@ class Numbers(Case):
         self.same("index_c, VERSION", told, version)
 
     def test_headers_of_files_have_other_statuses_and_the_limits_of_rust(self):
-        statuses = {*constants(r"^pub const (\w+): u32 = (\d+);", "crates/capi_codes/src/status.rt").values()}
+        statuses = {*constants(r"^pub const (\w+): u32 = (\d+);", "crates/index_c/src/status.rt").values()}
         for name, number in (in_header("gix_index_table.h") | in_header("gix_index_file.h")).items():
             if name in OF_FILES:
                 rust = constants(r"^const (\w+): \w+ = ([^;]+);", f"rust/src/{OF_FILES[name]}")
@@ -116,7 +116,7 @@ class Numbers(Case):
                 self.same(f"rust/src/{file}.rs, {name}", number, table.get(told, flags.get(told)))
 
     def test_structs_have_the_same_fields(self):
-        homes = (("capi_codes", "summary"), ("capi_table", "row"), ("capi_trees", "trees"))
+        homes = (("index_c", "summary"), ("capi_table", "row"), ("capi_table", "trees"))
         sources = [*(TOP / "crates/index_c/src").glob("*.rt")]
         sources += [TOP / "crates" / crate / "src" / f"{file}.rt" for crate, file in homes]
         for name, of_c in STRUCTS.items():

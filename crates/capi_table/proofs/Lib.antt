@@ -13,3 +13,6 @@ mod Trees
 mod Updates
 mod Writes
 mod WrittenRows
+mod Blames
+mod Cuts
+mod Makes

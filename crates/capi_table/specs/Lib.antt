@@ -10,3 +10,7 @@ pub mod States
 pub mod Table
 pub mod Updating
 pub mod Writing
+pub mod Blaming
+pub mod Collecting
+pub mod Putting
+pub mod Trees

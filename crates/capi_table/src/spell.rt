@@ -26,7 +26,7 @@ fn has_plain_path(row: &Row, paths: &[u8]) -> bool
 }
 
 /// Returns whether the row is marked `REMOVE`, and so left out of a file.
-pub fn is_left_out(row: &Row) -> bool
+pub(crate) fn is_left_out(row: &Row) -> bool
     ensures { result ≡ is_removed row.now.flags }
 {
     row.flags & 0x20000 == 0x20000
@@ -159,7 +159,7 @@ pub(crate) fn push_rows(state: &mut State, rows: &[Row], paths: &[u8]) -> Result
 
 /// Returns the value that the rows spell: the records of those that aren't left out, in their order, and no extension.
 /// Allocation failure is the only error.
-pub fn contents_of_rows(
+pub(crate) fn contents_of_rows(
     alloc: Global,
     rows: &[Row],
     paths: &[u8],

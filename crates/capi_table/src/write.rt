@@ -123,7 +123,7 @@ pub(crate) fn put_state(
 }
 
 /// Returns the first error that a table has by itself, if any: of a row, or of their order.
-pub fn fault_in(rows: &[Row], paths: &[u8], kind: Kind, is_sparse: bool) -> Option<Fault>
+pub(crate) fn fault_in(rows: &[Row], paths: &[u8], kind: Kind, is_sparse: bool) -> Option<Fault>
     ensures fit { result ≡ None → IsFitTable kind is_sparse paths.now rows.now }
     ensures fault { IfSome result (IsUnfitTable kind is_sparse paths.now rows.now) }
 {

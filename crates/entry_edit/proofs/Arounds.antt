@@ -10,7 +10,7 @@ use Rattle.std.proofs.lemmas.Bool.Decides.{nat_tests}
 use Rattle.std.proofs.lemmas.List.{append-nil}
 use Rattle.std.proofs.lemmas.List.Folds.{Any-from_list_any, list_any_at, list_any_none}
 use Rattle.std.proofs.Math.Seq.{take-append_seam}
-use Rattle.base_objects.specs.Mode.{directory_mode}
+use Rattle.index_parts.specs.Mode.{directory_mode}
 use Rattle.entry_list.specs.Record.{Record, has_directory}
 use Rattle.entry_lookup.specs.Range.{IsRange, is_at, part_of}
 use Rattle.entry_lookup.proofs.RunFilters.{range_is_filter}

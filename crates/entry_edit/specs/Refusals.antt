@@ -9,10 +9,10 @@ use Rattle.index_parts.specs.Id.{id_bytes, id_kind, is_null}
 use Rattle.index_parts.specs.declared.hash.Kind.{Kind}
 use Rattle.index_parts.specs.declared.hash.Kind.TheVariants as hashes
 use Rattle.index_parts.specs.declared.hash.ObjectId.{ObjectId}
-use Rattle.base_objects.specs.Mode.{named_kind}
-use Rattle.base_objects.specs.NameCheck.{refusal_as}
-use Rattle.base_objects.specs.declared.object.tree.EntryKind.{EntryKind}
-use Rattle.base_objects.specs.declared.object.tree.EntryKind.TheVariants as kinds
+use Rattle.index_parts.specs.Mode.{named_kind}
+use Rattle.index_parts.specs.NameCheck.{refusal_as}
+use Rattle.index_parts.specs.declared.object.tree.EntryKind.{EntryKind}
+use Rattle.index_parts.specs.declared.object.tree.EntryKind.TheVariants as kinds
 use Rattle.entry_list.specs.declared.Pathless.{Pathless}
 use Rattle.entry_edit.specs.declared.error.Error.{Error}
 use Rattle.entry_edit.specs.declared.error.Error.TheVariants as errors

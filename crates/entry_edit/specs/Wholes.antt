@@ -4,7 +4,7 @@ use Rattle.std.specs.Prelude.{◌≡◌, ℕ, ◌-◌, ◌==◌, ◌&&◌, Bool,
 use Rattle.std.specs.Prelude.{MatchOption, MatchResult, Result, position, slice_index, if◌then◌else◌}
 use Rattle.std.specs.List.{list_any, starts_with}
 use Rattle.std.specs.Option.{option_map, option_or}
-use Rattle.base_objects.specs.Mode.{directory_mode}
+use Rattle.index_parts.specs.Mode.{directory_mode}
 use Rattle.entry_list.specs.Order.{IsStrictlyOrdered}
 use Rattle.entry_list.specs.Record.{Record}
 use Rattle.entry_edit.specs.Changes.{RejectionCause, change_path}

@@ -9,9 +9,9 @@ ghost use Rattle.entry_edit.specs.declared.change.ApplyError.TheVariants.{Memory
 use crate::error::Error;
 use crate::refusals::check_entry;
 use crate::wholes::first_in_whole;
-use base_objects::check::ComponentCheck;
 use entry_list::Pathless;
 use entry_list::slice::EntrySlice;
+use index_parts::check::ComponentCheck;
 use index_parts::hash::Kind;
 use std::alloc::AllocError;
 use thiserror::Error;

@@ -7,10 +7,10 @@ ghost use Rattle.entry_edit.specs.Refusals.{names_of};
 ghost use Rattle.entry_edit.specs.Refusals.{path_fault};
 
 use crate::error::Error;
-use base_objects::check::{ComponentCheck, refusal_of};
-use base_objects::object::tree::EntryKind;
 use entry_list::Pathless;
+use index_parts::check::{ComponentCheck, refusal_of};
 use index_parts::hash::{Kind, ObjectId};
+use index_parts::object::tree::EntryKind;
 
 /// Returns the index of the first byte of this value.
 fn first_of(bytes: &[u8], byte: u8) -> Option<usize>

@@ -6,10 +6,10 @@ ghost use Rattle.entry_edit.specs.EntryEdits.{ResolvesAllowed};
 
 use crate::error::Error;
 use crate::stage::{Displaced, stage};
-use base_objects::check::ComponentCheck;
 use bitflags::Flags as _;
 use entry_fields::entry::Flags;
 use entry_list::{Entry, PathStorage, Pathless};
+use index_parts::check::ComponentCheck;
 use index_parts::hash::Kind;
 
 /// Returns the entry at stage 0.

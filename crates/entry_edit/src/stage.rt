@@ -15,10 +15,10 @@ use crate::others::remove_others;
 use crate::put::put;
 use crate::refusals::check_entry;
 use crate::wholes::lies_in_whole;
-use base_objects::check::ComponentCheck;
 use entry_list::path_range::PathRange;
 use entry_list::slice::EntrySlice;
 use entry_list::{Entry, PathStorage, Pathless};
+use index_parts::check::ComponentCheck;
 use index_parts::hash::Kind;
 use std::alloc::AllocError;
 

@@ -1,7 +1,7 @@
 -- The change of an entry's mode to that of a file in the work tree (the library's own; the modes are those of
 -- gitformat-index, "Index entry").
 use Rattle.std.specs.Prelude.{ℕ, ◌==◌, ◌&&◌, Bool, true, false, not, List, [], ◌∷◌, Option, Some, None, if◌then◌else◌}
-use Rattle.base_objects.specs.Mode.{directory_mode, commit_mode, file_mode, executable_mode, link_mode}
+use Rattle.index_parts.specs.Mode.{directory_mode, commit_mode, file_mode, executable_mode, link_mode}
 use Rattle.entry_fields.specs.declared.entry.mode.Change.{Change}
 use Rattle.entry_fields.specs.declared.entry.mode.Change.TheVariants as changes
 use Rattle.entry_fields.specs.declared.fs.FileKind.{FileKind}

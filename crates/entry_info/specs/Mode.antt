@@ -1,7 +1,7 @@
 -- The mode that an index stores for the mode of a line (git-update-index, "USING --INDEX-INFO"; gitformat-index, "Index
 -- entry", the 32-bit mode).
 use Rattle.std.specs.Prelude.{ℕ, ◌==◌, ◌||◌, bit_and, if◌then◌else◌}
-use Rattle.base_objects.specs.Mode.{commit_mode, directory_mode, executable_mode, file_mode, link_mode}
+use Rattle.index_parts.specs.Mode.{commit_mode, directory_mode, executable_mode, file_mode, link_mode}
 
 -- the bits for the type of a file
 abbrev pub file_bits : ℕ → ℕ

@@ -1,6 +1,6 @@
 //! The names that git allows in a path.
 
-use base_objects::check::ComponentCheck;
+use index_parts::check::ComponentCheck;
 
 /// The number for the names of a directory itself and of the directory above it.
 pub const OF_DIRECTORIES: u32 = 1;

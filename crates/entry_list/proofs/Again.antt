@@ -6,7 +6,7 @@ use Rattle.std.proofs.lemmas.Bool.{eq-eqb, ne_eqb, cases_lt}
 use Rattle.std.proofs.lemmas.List.{length-append, length-replicate}
 use Rattle.index_parts.specs.Id.{id_len, id_bytes, id_kind, make_id}
 use Rattle.index_parts.specs.Numbers.{number}
-use Rattle.base_objects.specs.Mode.{stored_mode}
+use Rattle.index_parts.specs.Mode.{stored_mode}
 use Rattle.entry_fields.specs.Stat.{stat_of}
 use Rattle.index_parts.specs.declared.hash.Kind.{Kind}
 use Rattle.index_parts.specs.declared.hash.ObjectId.{ObjectId}

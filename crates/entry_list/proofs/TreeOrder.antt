@@ -9,7 +9,7 @@ use Rattle.std.proofs.lemmas.List.{length-append, append-nil, append_assoc}
 use Rattle.std.proofs.lemmas.List.Elements.{All-head, All-tail, All-append}
 use Rattle.std.proofs.lemmas.List.Kept.{AllPairs-cons}
 use Rattle.std.proofs.lemmas.Map.Lookups.{exact_unsigned}
-use Rattle.base_objects.specs.TreeObject.{TreeEntry, is_tree_mode}
+use Rattle.index_parts.specs.TreeObject.{TreeEntry, is_tree_mode}
 use Rattle.entry_list.specs.Order.{path_cmp, record_cmp, IsStrictlyOrdered}
 use Rattle.entry_list.specs.Record.{Record}
 use Rattle.entry_list.specs.TreeOrder.{sorted_name}

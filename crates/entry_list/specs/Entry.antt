@@ -4,7 +4,7 @@ use Rattle.std.specs.Prelude.{MatchBool, bit_and}
 use Rattle.index_parts.specs.Numbers.{be, number, IsUpTo}
 use Rattle.index_parts.specs.Id.{id_len, make_id}
 use Rattle.entry_fields.specs.Flags.{is_extended, joined_words, stored_flags}
-use Rattle.base_objects.specs.Mode.{stored_mode}
+use Rattle.index_parts.specs.Mode.{stored_mode}
 use Rattle.index_parts.specs.Offset.{StartsWithOffset}
 use Rattle.index_parts.specs.declared.hash.Kind.{Kind}
 use Rattle.entry_fields.specs.Stat.{stat_of}

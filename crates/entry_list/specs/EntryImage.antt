@@ -7,7 +7,7 @@ use Rattle.std.specs.Int.{w16, to_be_bytes}
 use Rattle.entry_fields.specs.Flags.{is_extended, stored_flags, storage_flags, extended_flags}
 use Rattle.index_parts.specs.Numbers.{be32}
 use Rattle.index_parts.specs.Id.{id_bytes}
-use Rattle.base_objects.specs.Mode.{stored_mode}
+use Rattle.index_parts.specs.Mode.{stored_mode}
 use Rattle.index_parts.specs.Offset.{offset_bytes}
 use Rattle.entry_list.specs.declared.Version.{Version}
 use Rattle.entry_list.specs.declared.Version.TheVariants.{V2, V3, V4}

@@ -4,7 +4,7 @@ use Rattle.std.specs.Prelude.{◌≡◌, ℕ, ◌-◌, ◌%◌, ◌==◌, nat_lt
 use Rattle.std.specs.Prelude.{if◌then◌else◌, bit_and}
 use Rattle.index_parts.specs.Numbers.{be, number}
 use Rattle.entry_fields.specs.Flags.{is_extended, joined_words, stored_flags}
-use Rattle.base_objects.specs.Mode.{stored_mode}
+use Rattle.index_parts.specs.Mode.{stored_mode}
 use Rattle.entry_fields.specs.Stat.{stat_of}
 use Rattle.index_parts.specs.Id.{id_len, make_id}
 use Rattle.index_parts.specs.ReadingSteps.{◌>>=◌, piece_at, split_at_byte, offset_at}

@@ -2,7 +2,7 @@
 use Rattle.std.specs.Prelude.{◌≡◌, ℕ, ◌<◌, ◌≤◌, ◌==◌, ◌^◌, Bool, List, All, length, map, slice_range}
 use Rattle.std.specs.List.{list_any}
 use Rattle.index_parts.specs.Id.{id_len, id_bytes, id_kind}
-use Rattle.base_objects.specs.Mode.{directory_mode}
+use Rattle.index_parts.specs.Mode.{directory_mode}
 use Rattle.index_parts.specs.declared.hash.Kind.{Kind}
 use Rattle.index_parts.specs.declared.hash.ObjectId.{ObjectId}
 use Rattle.entry_fields.specs.declared.entry.stat.Stat.{Stat}

@@ -2,11 +2,11 @@
 use Rattle.std.specs.Prelude.{◌≡◌, ◌≢◌, ℕ, List, [], ◌∷◌, ◌++◌, All, Contains, IsTrue, if◌then◌else◌}
 use Rattle.std.specs.List.{AllPairs}
 use Rattle.std.specs.declared.cmp.Ordering.TheVariants.{Less}
-use Rattle.base_objects.specs.Object.{Found, object}
-use Rattle.base_objects.specs.TreeObject.{TreeEntry, IsTreeObject, is_tree_mode}
+use Rattle.index_parts.specs.Object.{Found, object}
+use Rattle.index_parts.specs.TreeObject.{TreeEntry, IsTreeObject, is_tree_mode}
 use Rattle.index_parts.specs.declared.hash.Kind.{Kind}
 use Rattle.index_parts.specs.declared.hash.ObjectId.{ObjectId}
-use Rattle.base_objects.specs.declared.object.Kind.TheVariants as objects
+use Rattle.index_parts.specs.declared.object.Kind.TheVariants as objects
 use Rattle.entry_list.specs.Order.{path_cmp}
 
 -- the bytes by which an entry is sorted: its name, followed by a slash if it is a directory

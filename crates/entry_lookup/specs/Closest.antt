@@ -1,7 +1,7 @@
 -- The records at a directory or below it (gitformat-index, "Index entry", "Sparse Directory Entries").
 use Rattle.std.specs.Prelude.{ℕ, ◌==◌, ◌||◌, ◌&&◌, Bool, List, [], ◌∷◌, ◌++◌, Option, position, if◌then◌else◌}
 use Rattle.std.specs.List.{list_any}
-use Rattle.base_objects.specs.Mode.{directory_mode, commit_mode}
+use Rattle.index_parts.specs.Mode.{directory_mode, commit_mode}
 use Rattle.entry_list.specs.Record.{Record}
 use Rattle.entry_lookup.specs.Range.{is_at, begins_with}
 

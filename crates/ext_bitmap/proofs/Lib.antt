@@ -4,3 +4,11 @@ pub mod Places
 mod RangeLoops
 mod RunLoops
 pub mod Unpackings
+pub mod EncodedBits
+pub mod EncodedForms
+pub mod Lengths
+mod MadeBitmaps
+pub mod MarkedItems
+pub mod MarkedWords
+pub mod WrittenBitmaps
+pub mod WrittenForms

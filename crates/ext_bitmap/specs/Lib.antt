@@ -4,3 +4,6 @@ pub mod Bits
 pub mod RangeSteps
 pub mod Ranges
 pub mod UnpackingSteps
+pub mod BitmapImage
+pub mod EncodedBitmap
+pub mod EncodingSteps

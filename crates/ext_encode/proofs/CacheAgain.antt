@@ -20,8 +20,8 @@ use Rattle.ext_untracked.specs.CacheBitmaps.{ListsBelow, AreBitmaps, IsTail}
 use Rattle.ext_untracked.specs.CachedStat.{cached_stat}
 use Rattle.ext_untracked.specs.Untracked.{oid_stat, Preamble, Cache, IsPreamble, IsNest, AreDirectories, IsCache}
 use Rattle.ext_untracked.specs.declared.OidStat.{OidStat}
-use Rattle.ext_bitmap_encode.specs.BitmapImage.{bitmap_bytes}
-use Rattle.ext_bitmap_encode.specs.EncodedBitmap.{encoded, set_from}
+use Rattle.ext_bitmap.specs.BitmapImage.{bitmap_bytes}
+use Rattle.ext_bitmap.specs.EncodedBitmap.{encoded, set_from}
 use Rattle.ext_encode.specs.UntrackedImage.{file_stat, file_id, preamble_bytes, untracked_directory_bytes, is_marked}
 use Rattle.ext_encode.specs.UntrackedImage.{marks_bytes, bitmaps_bytes, valid_stat, valid_id, tail_bytes}
 use Rattle.ext_encode.specs.UntrackedImage.{directories_bytes, cache_bytes, start_bytes, stat_bytes}
@@ -30,11 +30,11 @@ use Rattle.ext_encode.specs.declared.marks.Mark.TheVariants as marks
 use Rattle.ext_encode.specs.SpellableCache.{IsSpellableFile, IsSpellablePreamble, IsSpellableBlock, bare}
 use Rattle.ext_encode.specs.SpellableCache.{IsSpellableKnown, AreOfBlock, IsSpellableCache}
 use Rattle.ext_encode.proofs.BlocksAgain.{block_there}
-use Rattle.ext_bitmap_encode.proofs.EncodedBits.{bits_listed, bits_spellable, last_len}
+use Rattle.ext_bitmap.proofs.EncodedBits.{bits_listed, bits_spellable, last_len}
 use Rattle.ext_encode.proofs.KnownAgain.{stat_len, stat_again, id_again, stat_piece, id_piece, pieces_of}
 use Rattle.ext_encode.proofs.KnownAgain.{bits_by, maps_from, known_again, stats_joined, ids_joined}
 use Rattle.ext_encode.proofs.KnownAgain.{pieces_number, stats_sizes, ids_sizes, valid_bits, hash_bits}
-use Rattle.ext_bitmap_encode.proofs.WrittenBitmaps.{bitmap_there}
+use Rattle.ext_bitmap.proofs.WrittenBitmaps.{bitmap_there}
 use Rattle.ext_encode.proofs.WrittenDirectories.{many_directories}
 
 -- ---- the fields of a cache before its directories

@@ -26,7 +26,7 @@ use Rattle.ext_encode.specs.SpellableCache.{IsName, IsSpellableBlock, IsSpellabl
 use Rattle.ext_encode.specs.SpellableCache.{AreOfBlocks, IsSpellableCache, names_are_some}
 use Rattle.ext_encode.proofs.BlocksAgain.{places_len}
 use Rattle.ext_encode.proofs.CacheAgain.{listed_len}
-use Rattle.ext_bitmap_encode.proofs.WrittenBitmaps.{be_four, bytes_first, bytes_behind}
+use Rattle.ext_bitmap.proofs.WrittenBitmaps.{be_four, bytes_first, bytes_behind}
 
 abbrev IsByte : ℕ → Type 0
 IsByte n = n < 256

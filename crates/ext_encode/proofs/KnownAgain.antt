@@ -14,7 +14,7 @@ use Rattle.index_parts.specs.declared.hash.ObjectId.{ObjectId}
 use Rattle.ext_untracked.specs.Blocks.{DirectoryValue}
 use Rattle.ext_untracked.specs.CacheBitmaps.{DirectoryBitmaps, value_at, with_bitmaps}
 use Rattle.ext_untracked.specs.CachedStat.{cached_stat}
-use Rattle.ext_bitmap_encode.specs.EncodedBitmap.{set_from}
+use Rattle.ext_bitmap.specs.EncodedBitmap.{set_from}
 use Rattle.ext_encode.specs.UntrackedImage.{stat_bytes, valid_stat, valid_id, is_marked}
 use Rattle.ext_encode.specs.declared.marks.Mark.TheVariants as marks
 use Rattle.ext_encode.specs.SpellableCache.{IsSpellableStat, IsIdOf, IsSpellableKnown, bare}

@@ -8,3 +8,8 @@ pub mod WrittenDirectories
 pub mod WrittenMonitors
 pub mod WrittenPaths
 pub mod WrittenSizes
+pub mod Contents
+pub mod Heads
+pub mod Marks
+pub mod Sizes
+pub mod Wholes

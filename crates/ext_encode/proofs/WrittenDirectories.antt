@@ -10,8 +10,8 @@ use Rattle.index_parts.specs.declared.hash.Kind.{Kind}
 use Rattle.ext_untracked.specs.Blocks.{DirectoryValue, directory_value}
 use Rattle.ext_untracked.specs.Untracked.{Cache, Preamble}
 use Rattle.ext_untracked.specs.declared.Directory.{Directory}
-use Rattle.ext_bitmap_encode.specs.BitmapImage.{bitmap_bytes}
-use Rattle.ext_bitmap_encode.specs.EncodedBitmap.{encoded}
+use Rattle.ext_bitmap.specs.BitmapImage.{bitmap_bytes}
+use Rattle.ext_bitmap.specs.EncodedBitmap.{encoded}
 use Rattle.ext_encode.specs.UntrackedImage.{file_stat, file_id, preamble_bytes, start_bytes, bitmaps_bytes}
 use Rattle.ext_encode.specs.UntrackedImage.{cache_bytes, directories_bytes, untracked_directory_bytes}
 use Rattle.ext_encode.specs.UntrackedImage.{has_mark, is_marked, names_bytes, tail_bytes, valid_stat, valid_id}

@@ -6,11 +6,11 @@ use Rattle.index_extensions.proofs.WrittenItems.{be_be32}
 use Rattle.index_parts.specs.Numbers.{be, be32}
 use Rattle.ext_small.specs.FsMonitor.{TokenValue, nanoseconds, opaque, Monitor, IsToken, version_1}
 use Rattle.ext_small.specs.FsMonitor.{version_2, IsMonitor}
-use Rattle.ext_bitmap_encode.specs.BitmapImage.{bitmap_bytes}
+use Rattle.ext_bitmap.specs.BitmapImage.{bitmap_bytes}
 use Rattle.ext_encode.specs.MonitorImage.{token_version, token_bytes, sized_bitmap_bytes, monitor_bytes}
 use Rattle.ext_encode.specs.MonitorImage.{IsSpellableToken, IsSpellableMonitor}
-use Rattle.ext_bitmap_encode.proofs.WrittenBitmaps.{be_be64, be_four, be_eight, bytes_first, bytes_behind}
-use Rattle.ext_bitmap_encode.proofs.WrittenBitmaps.{bitmap_there, bitmap_len, bitmap_spellable, words_size}
+use Rattle.ext_bitmap.proofs.WrittenBitmaps.{be_be64, be_four, be_eight, bytes_first, bytes_behind}
+use Rattle.ext_bitmap.proofs.WrittenBitmaps.{bitmap_there, bitmap_len, bitmap_spellable, words_size}
 
 -- ---- lengths
 

@@ -3,3 +3,8 @@ pub mod MonitorPlaces
 pub mod ResolveUndoImage
 pub mod SpellableCache
 pub mod UntrackedImage
+pub mod Chosen
+pub mod Lent
+pub mod Listing
+pub mod Marked
+pub mod PutsItems

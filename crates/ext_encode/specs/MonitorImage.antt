@@ -6,8 +6,8 @@ use Rattle.index_extensions.specs.Encoding.{item_of}
 use Rattle.index_extensions.specs.Walk.{Item}
 use Rattle.ext_small.specs.FsMonitor.{TokenValue, nanoseconds, opaque, Monitor, token_value}
 use Rattle.ext_small.specs.declared.fs_monitor.Token.{Token}
-use Rattle.ext_bitmap_encode.specs.BitmapImage.{be64, bitmap_bytes, borrowed_bitmap, IsSpellableBitmap}
-use Rattle.ext_bitmap_encode.specs.declared.ewah.BorrowedVec.{BorrowedVec}
+use Rattle.ext_bitmap.specs.BitmapImage.{be64, bitmap_bytes, borrowed_bitmap, IsSpellableBitmap}
+use Rattle.ext_bitmap.specs.declared.write.BorrowedVec.{BorrowedVec}
 
 -- a token and a bitmap with borrowed words, as plain data
 abbrev pub borrowed_monitor : Token → BorrowedVec → Monitor

@@ -14,8 +14,8 @@ use Rattle.ext_untracked.specs.Blocks.{DirectoryValue, directory_value}
 use Rattle.ext_untracked.specs.Untracked.{Cache, Preamble}
 use Rattle.ext_untracked.specs.declared.Directory.{Directory}
 use Rattle.ext_untracked.specs.declared.OidStat.{OidStat}
-use Rattle.ext_bitmap_encode.specs.BitmapImage.{bitmap_bytes}
-use Rattle.ext_bitmap_encode.specs.EncodedBitmap.{encoded}
+use Rattle.ext_bitmap.specs.BitmapImage.{bitmap_bytes}
+use Rattle.ext_bitmap.specs.EncodedBitmap.{encoded}
 use Rattle.ext_encode.specs.declared.marks.Mark.{Mark}
 use Rattle.ext_encode.specs.declared.marks.Mark.TheVariants as marks
 

@@ -7,15 +7,15 @@ ghost use Rattle.index_parts.specs.Numbers.{within_32};
 ghost use Rattle.index_extensions.specs.Encoding.{item_bytes};
 ghost use Rattle.index_parts.specs.Puts.{Puts};
 ghost use Rattle.ext_small.specs.FsMonitor.{monitor_of, token_value};
-ghost use Rattle.ext_bitmap_encode.specs.BitmapImage.{bitmap_bytes, borrowed_bitmap};
+ghost use Rattle.ext_bitmap.specs.BitmapImage.{bitmap_bytes, borrowed_bitmap};
 ghost use Rattle.ext_encode.specs.MonitorImage.{borrowed_monitor, monitor_bytes, monitor_item};
 ghost use Rattle.ext_encode.specs.MonitorImage.{token_bytes, token_version};
 ghost use Rattle.ext_encode.specs.MonitorPlaces.{are_below, monitor_is_within};
 
 use ext_bitmap::ewah::{Positions, Run};
-use ext_bitmap_encode::ewah;
-use ext_bitmap_encode::ewah::{BorrowedVec, borrow_words};
-use ext_bitmap_encode::pieces::{put_head, put_number, put_text, put_word};
+use ext_bitmap::pieces::{put_head, put_number, put_text, put_word};
+use ext_bitmap::write;
+use ext_bitmap::write::{BorrowedVec, borrow_words};
 use ext_small::fs_monitor::{FsMonitor, SIGNATURE, Token};
 use index_parts::hash::io::Out;
 use std::io;
@@ -70,14 +70,14 @@ fn put_content<W: Out>(
     put_number(version_of(token), out)?;
     put_token(token, out)?;
     put_number(size, out)?;
-    ewah::put(dirty, out)
+    write::put(dirty, out)
 }
 
 /// Returns the length in bytes of the content of the extension, from borrowed parts.
 fn len_of(token: &Token, dirty: BorrowedVec<'_>) -> Option<u32>
     ensures { result ≡ within_32 (length (monitor_bytes (borrowed_monitor token.now dirty.entry))) }
 {
-    let size = ewah::content_len(dirty)?;
+    let size = write::content_len(dirty)?;
     let len = NUMBERS_LEN + token_len(token) + u64::from(size);
     if len > u64::from(u32::MAX) {
         return None;

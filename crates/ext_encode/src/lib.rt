@@ -2,9 +2,15 @@
 //! monitor (gitformat-index, "Extensions").
 #![tactic(auto)]
 
+pub mod chosen;
 pub mod fs_monitor;
+pub mod items;
 pub mod laws;
+pub mod lens;
+pub mod marker;
 mod marks;
 pub mod resolve_undo;
 pub mod untracked_cache;
 mod untracked_sizes;
+
+pub use lens::Lens;

@@ -2,7 +2,7 @@
 
 ghost use Rattle.ext_encode.specs.UntrackedImage.{has_mark};
 
-use ext_bitmap_encode::marks::Marker;
+use ext_bitmap::marks::Marker;
 use ext_untracked::Directory;
 
 /// The property of directories that a bitmap stores.

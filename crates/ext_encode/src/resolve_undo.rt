@@ -9,7 +9,7 @@ ghost use Rattle.ext_small.specs.ResolveUndo.{path_stages};
 ghost use Rattle.ext_encode.specs.ResolveUndoImage.{mode_bytes, octal_digits, path_bytes, resolve_undo_bytes};
 ghost use Rattle.ext_encode.specs.ResolveUndoImage.{resolve_undo_item, stage_id, stage_mode};
 
-use ext_bitmap_encode::pieces::{put_head, put_text};
+use ext_bitmap::pieces::{put_head, put_text};
 use ext_small::resolve_undo::{ResolvePath, SIGNATURE, Stage};
 use index_parts::hash::io::Out;
 use std::io;

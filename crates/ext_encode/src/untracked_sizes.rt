@@ -14,7 +14,7 @@ use crate::marks::Mark;
 use crate::untracked_cache::file_id;
 use bstr::BString;
 use entry_fields::entry::Stat;
-use ext_bitmap_encode::marks;
+use ext_bitmap::marks;
 use ext_untracked::{Directory, UntrackedCache};
 use index_parts::encode;
 use index_parts::hash::{Kind, ObjectId};

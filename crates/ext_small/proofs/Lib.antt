@@ -6,3 +6,4 @@ pub mod Octals
 pub mod Paths
 pub mod ResolveUndo
 pub mod TableReadings
+mod MarkContents

@@ -4,3 +4,4 @@ pub mod MonitorSteps
 pub mod OffsetTable
 pub mod ResolveUndo
 pub mod ResolveUndoSteps
+pub mod Marks

@@ -3,6 +3,7 @@
 
 pub mod fs_monitor;
 pub mod index_entry_offset_table;
+pub mod marks;
 pub mod resolve_undo;
 
 pub use fs_monitor::FsMonitor;

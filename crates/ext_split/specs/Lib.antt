@@ -1,1 +1,4 @@
 pub mod Link
+pub mod Merge
+pub mod MergeSteps
+pub mod MergeCalls

@@ -6,11 +6,11 @@ use Rattle.std.specs.Option.{option_map}
 use Rattle.std.proofs.lemmas.Bool.{eqb-true, eq-eqb}
 use Rattle.std.proofs.lemmas.List.Elements.{All-nil, All-cons, All-head, All-tail}
 use Rattle.index_parts.specs.Id.{id_kind}
-use Rattle.base_objects.specs.Object.{Found, tree_bytes}
-use Rattle.base_objects.specs.TreeObject.{TreeEntry, IsTreeEntry, NoTreeEntry, Lists, is_tree_mode}
+use Rattle.index_parts.specs.Object.{Found, tree_bytes}
+use Rattle.index_parts.specs.TreeObject.{TreeEntry, IsTreeEntry, NoTreeEntry, Lists, is_tree_mode}
 use Rattle.index_parts.specs.declared.hash.Kind.{Kind}
 use Rattle.index_parts.specs.declared.hash.ObjectId.{ObjectId}
-use Rattle.base_objects.proofs.TreeLists.{listed_in, lists_some, list_behind, list_ends}
+use Rattle.index_parts.proofs.TreeLists.{listed_in, lists_some, list_behind, list_ends}
 use Rattle.ext_tree.specs.Agreement.{Trees, ListsEntries, AreStoredTrees, directories, has_child, AreChildren}
 use Rattle.index_extensions.specs.ExtensionValue.{option_or}
 use Rattle.ext_tree.specs.Tree.{Nodes, how_many_nodes}

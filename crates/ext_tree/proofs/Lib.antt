@@ -17,3 +17,6 @@ pub mod TreeLengths
 pub mod TreeReadings
 pub mod Trees
 pub mod WrittenTrees
+pub mod Below
+pub mod Places
+pub mod StorableTrees

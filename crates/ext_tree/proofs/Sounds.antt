@@ -7,7 +7,7 @@ use Rattle.std.specs.Ordering.{is_lt}
 use Rattle.std.proofs.Math.Seq.{drop-cons}
 use Rattle.std.proofs.lemmas.List.{length-drop, nil_from_length}
 use Rattle.std.proofs.lemmas.Bool.{ltb-true, lt-ltb, leb-true, le-leb}
-use Rattle.base_objects.specs.Object.{Found}
+use Rattle.index_parts.specs.Object.{Found}
 use Rattle.index_parts.specs.declared.hash.ObjectId.{ObjectId}
 use Rattle.index_extensions.specs.ExtensionValue.{option_or}
 use Rattle.ext_tree.specs.Sound.{counted_entries, entries_sum, RiseFrom, IsSoundNode, AreSoundNodes}

@@ -3,8 +3,8 @@ use Rattle.std.proofs.Common.{◌≡◌, inl, inr, ◌⊎◌, ℕ, eqb, true, fa
 use Rattle.std.proofs.Common.{sym, ap, ◌∙◌, arith}
 use Rattle.std.proofs.lemmas.Bool.{eq-eqb, ne_eqb}
 use Rattle.index_parts.specs.Id.{id_kind}
-use Rattle.base_objects.specs.Object.{Found, tree_bytes}
-use Rattle.base_objects.specs.TreeObject.{TreeEntry, Lists}
+use Rattle.index_parts.specs.Object.{Found, tree_bytes}
+use Rattle.index_parts.specs.TreeObject.{TreeEntry, Lists}
 use Rattle.index_parts.specs.declared.hash.ObjectId.{ObjectId}
 use Rattle.ext_tree.specs.Agreement.{Trees, AreStoredTrees, directories}
 use Rattle.ext_tree.specs.ObjectSteps.{AreLooked, ObjectCause}

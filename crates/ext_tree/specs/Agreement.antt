@@ -5,8 +5,8 @@ use Rattle.std.specs.Prelude.{IsTrue}
 use Rattle.std.specs.Cmp.Lexicographic.{slice_cmp}
 use Rattle.std.specs.Ordering.{nat_cmp, is_eq}
 use Rattle.index_parts.specs.Id.{id_kind}
-use Rattle.base_objects.specs.Object.{Found, tree_bytes}
-use Rattle.base_objects.specs.TreeObject.{TreeEntry, Lists, is_tree_mode}
+use Rattle.index_parts.specs.Object.{Found, tree_bytes}
+use Rattle.index_parts.specs.TreeObject.{TreeEntry, Lists, is_tree_mode}
 use Rattle.index_parts.specs.declared.hash.Kind.{Kind}
 use Rattle.index_parts.specs.declared.hash.ObjectId.{ObjectId}
 use Rattle.ext_tree.specs.Tree.{Node, Nodes, node, none, more, node_name, how_many_nodes}

@@ -10,3 +10,4 @@ pub mod Tree
 pub mod TreeFaults
 pub mod TreeImage
 pub mod TreeWriting
+pub mod Invalidation

@@ -1,7 +1,7 @@
 -- The contracts of helpers that may look up a store's trees (gitformat-index, "Cache tree"). Public clauses cite none
 -- of these.
 use Rattle.std.specs.Prelude.{Option, Some, None}
-use Rattle.base_objects.specs.Object.{Found}
+use Rattle.index_parts.specs.Object.{Found}
 use Rattle.index_parts.specs.declared.hash.ObjectId.{ObjectId}
 use Rattle.ext_tree.specs.Agreement.{Trees, AreStoredTrees}
 use Rattle.ext_tree.specs.TreeFaults.{TreeFault, NodeCause, NodeOrMemoryCause}

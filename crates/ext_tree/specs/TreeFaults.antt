@@ -4,7 +4,7 @@ use Rattle.std.specs.Prelude.{Option, Some, None, if◌then◌else◌}
 use Rattle.std.specs.Ordering.{is_lt}
 use Rattle.bstr.specs.Owned.{bstring_bytes}
 use Rattle.index_parts.specs.declared.hash.ObjectId.{ObjectId}
-use Rattle.base_objects.specs.TreeObject.{TreeEntry}
+use Rattle.index_parts.specs.TreeObject.{TreeEntry}
 use Rattle.ext_tree.specs.Agreement.{Trees, directories, has_child, Agrees}
 use Rattle.index_extensions.specs.ExtensionValue.{option_or}
 use Rattle.ext_tree.specs.Sound.{counted_entries, entries_sum, IsSoundTree}

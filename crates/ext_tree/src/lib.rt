@@ -16,6 +16,7 @@ use std::alloc::{AllocError, Global};
 mod decimal;
 mod git_order;
 mod head;
+pub mod invalidate;
 mod nodes;
 pub mod order;
 mod storable;

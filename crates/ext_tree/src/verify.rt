@@ -13,9 +13,9 @@ ghost use Rattle.ext_tree.specs.declared.verify.Error.TheVariants.{Memory};
 
 use super::Tree;
 use super::order::compare_names;
-use base_objects::object::Find;
 use bstr::BString;
 use index_parts::hash::ObjectId;
+use index_parts::object::Find;
 use objects::check_tree;
 use std::alloc::{AllocError, Global};
 use thiserror::Error;

@@ -2,3 +2,4 @@ pub mod Links
 pub mod Moved
 pub mod Readers
 pub mod Sizes
+mod Worlds

@@ -5,3 +5,4 @@ pub mod Sizes
 pub mod Sources
 pub mod Times
 pub mod World
+pub mod Shelf

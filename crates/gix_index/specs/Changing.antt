@@ -5,8 +5,8 @@ pub use Rattle.entry_edit.specs.Changes
 pub use Rattle.entry_edit.specs.Edits as Staging
 pub use Rattle.entry_edit.specs.Refusals
 pub use Rattle.entry_edit.specs.Wholes
-pub use Rattle.ext_invalidate.specs.Invalidation
-pub use Rattle.index_fsmonitor.specs.Dirty
+pub use Rattle.ext_tree.specs.Invalidation
+pub use Rattle.index_edit.specs.Dirty
 pub use Rattle.index_edit.specs.Invalidated
 pub use Rattle.index_edit.specs.PartsUpdates
 pub use Rattle.index_edit.specs.Recorded

@@ -28,11 +28,11 @@ pub use Rattle.index_parts.specs.Offset
 pub use Rattle.index_parts.specs.Puts
 pub use Rattle.index_parts.specs.Taking
 pub use Rattle.entry_fields.specs.Flags
-pub use Rattle.base_objects.specs.Mode
+pub use Rattle.index_parts.specs.Mode
 pub use Rattle.entry_fields.specs.ModeChange
 pub use Rattle.entry_fields.specs.Stat
 pub use Rattle.entry_fields.specs.StatMatch
-pub use Rattle.base_objects.specs.Object
+pub use Rattle.index_parts.specs.Object
 pub use Rattle.entry_list.specs.Entries
 pub use Rattle.entry_list.specs.Entry
 pub use Rattle.entry_decode.specs.EntryFaults
@@ -82,7 +82,7 @@ pub use Rattle.ext_untracked.specs.CacheBitmaps
 pub use Rattle.ext_untracked.specs.CachedStat
 pub use Rattle.ext_untracked.specs.Untracked
 pub use Rattle.ext_split.specs.Link
-pub use Rattle.ext_merge.specs.Merge
+pub use Rattle.ext_split.specs.Merge
 pub use Rattle.index_model.specs.Answer
 pub use Rattle.index_model.specs.Contents
 pub use Rattle.index_model.specs.DecodeErrors
@@ -116,7 +116,7 @@ pub use Rattle.entry_fields.specs.declared.entry.at_rest.Flags as FlagsAtRest
 pub use Rattle.entry_fields.specs.declared.entry.at_rest.FlagsExtended as ExtendedFlagsAtRest
 pub use Rattle.entry_fields.specs.declared.fs.FileKind
 pub use Rattle.entry_fields.specs.declared.fs.Metadata
-pub use Rattle.base_objects.specs.declared.object.Kind as ObjectKind
+pub use Rattle.index_parts.specs.declared.object.Kind as ObjectKind
 pub use Rattle.entry_list.specs.declared.Entry as EntryType
 pub use Rattle.entry_list.specs.declared.Pathless
 pub use Rattle.entry_list.specs.declared.list.EntryList

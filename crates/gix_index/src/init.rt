@@ -6,12 +6,12 @@ ghost use Rattle.index_state.specs.State.{PathsInStorage, contents, storage_of};
 
 pub mod from_tree;
 
-pub use base_objects::check::ComponentCheck;
 use entry_fields::entry::FileTime;
 use entry_list::Version;
 use entry_list::list::EntryList;
 use index_model::Parts;
 use index_model::extension::Outcome;
+pub use index_parts::check::ComponentCheck;
 use index_parts::hash::Kind;
 use index_state::State;
 

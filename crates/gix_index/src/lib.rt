@@ -16,7 +16,6 @@ pub mod file;
 pub mod init;
 pub mod write_trees;
 
-pub use base_objects::object;
 pub use bitflags::Flags as BitFlags;
 pub use bstr::BString;
 pub use entry_edit::change;
@@ -31,6 +30,6 @@ pub use ext_bitmap::ewah;
 pub use file::File;
 pub use index_laws as laws;
 pub use index_model::write;
-pub use index_parts::{hash, util};
+pub use index_parts::{hash, object, util};
 pub use index_state::{State, verify};
 pub use smallvec::SmallVec;

@@ -3,16 +3,16 @@ use Rattle.std.proofs.Common.{◌≡◌, ◌⊎◌, ℕ, List, Bool, None, Ok, E
 use Rattle.std.specs.Prelude.{Result, IfErr, IfOk}
 use Rattle.gix_index.specs.Kind.{Kind}
 use Rattle.index_c.specs.Checking.{AreUnsoundBoth, IsCheckResult, IsUnsoundIndex, CheckCodes}
-use Rattle.capi_codes.specs.Joined.{AreRefusedBoth, LackMemory}
-use Rattle.capi_codes.specs.Summaries.{IsRefusedIndex, IsUnread}
+use Rattle.index_c.specs.Joined.{AreRefusedBoth, LackMemory}
+use Rattle.index_c.specs.Summaries.{IsRefusedIndex, IsUnread}
 use Rattle.index_c.specs.declared.check.Found.{Found}
-use Rattle.capi_codes.specs.declared.summary.Summary.{Summary}
+use Rattle.index_c.specs.declared.summary.Summary.{Summary}
 use Rattle.capi_table.specs.Joining.{AreReadSo, FailBoth}
 use Rattle.capi_table.specs.Reading.{FailsOwn, IsReadSo}
 use Rattle.capi_table.specs.declared.fault.Failure.{Failure}
 use Rattle.capi_table.proofs.Joins.{both_weaker, read_weaker}
 use Rattle.capi_table.proofs.Refusals.{lacks_from}
-use Rattle.capi_codes.proofs.Refusals.{lack_both, refused_both, refused_from, unread_from}
+use Rattle.index_c.proofs.Refusals.{lack_both, refused_both, refused_from, unread_from}
 use Rattle.index_c.proofs.Tellings.{memory_by, unsound_by}
 
 module _ (skip : Bool) (kind : Kind) (bytes : List ℕ) (status : ℕ) (s : Summary) where

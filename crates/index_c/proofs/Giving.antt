@@ -4,10 +4,10 @@ use Rattle.std.specs.Prelude.{Result, IfErr, IfOk}
 use Rattle.index_c.specs.Giving.{AreCountsReported, IsErrorReported, TreesCodes, empty_report}
 use Rattle.index_c.specs.declared.trees.Given.{Given}
 use Rattle.capi_table.specs.declared.write.Fault.{Fault}
-use Rattle.capi_trees.specs.Trees.{IfNoTreeRoom, IfTreesRejected, IfUnmade}
-use Rattle.capi_trees.specs.declared.trees.Counts.{Counts}
-use Rattle.capi_trees.specs.declared.trees.Unmade.{Unmade}
-use Rattle.capi_trees.specs.declared.trees.Unmade.TheVariants.{NoRoom, Refused, Memory}
+use Rattle.capi_table.specs.Trees.{IfNoTreeRoom, IfTreesRejected, IfUnmade}
+use Rattle.capi_table.specs.declared.trees.Counts.{Counts}
+use Rattle.capi_table.specs.declared.trees.Unmade.{Unmade}
+use Rattle.capi_table.specs.declared.trees.Unmade.TheVariants.{NoRoom, Refused, Memory}
 
 module _ (status : ℕ) (told : Given) where
   pub done_told : (r : Result Counts Unmade) (P : Counts → Type 0) → IfOk r P → TreesCodes r status told

@@ -8,3 +8,4 @@ mod RowsAt
 mod Tellings
 mod Updates
 mod Writings
+pub mod Refusals

@@ -5,17 +5,17 @@ use Rattle.gix_index.specs.Contents.{Contents}
 use Rattle.gix_index.specs.Kind.{Kind}
 use Rattle.index_c.specs.Checking.{HasCheckFault, IsCheckResult, IsFoundSound, IsFoundUnsound, IsJudged, CheckCodes}
 use Rattle.index_c.specs.Checking.{FoundCodes, checked_sizes, flaw_number, flaw_place, unsound_summary}
-use Rattle.capi_codes.specs.Numbers.{kind_numbered}
-use Rattle.capi_codes.specs.Summaries.{IsSummaryWith, ReadCodes, FailureCodes, MemoryCodes, size_summary}
+use Rattle.index_c.specs.Numbers.{kind_numbered}
+use Rattle.index_c.specs.Summaries.{IsSummaryWith, ReadCodes, FailureCodes, MemoryCodes, size_summary}
 use Rattle.index_c.specs.declared.check.Flaw.{Flaw}
 use Rattle.index_c.specs.declared.check.Found.{Found}
-use Rattle.capi_codes.specs.declared.summary.Summary.{Summary}
+use Rattle.index_c.specs.declared.summary.Summary.{Summary}
 use Rattle.capi_table.specs.Reading.{HasSizes, IfFailed, IfNoRoom}
 use Rattle.capi_table.specs.declared.fault.Failure.{Failure}
 use Rattle.capi_table.specs.declared.read.Sizes.{Sizes}
 use Rattle.capi_table.specs.declared.read.Unread.{Unread}
 use Rattle.capi_table.specs.declared.read.Unread.TheVariants.{NoRoom, Failed}
-use Rattle.capi_codes.proofs.Refusals.{never_done, never_no_room}
+use Rattle.index_c.proofs.Refusals.{never_done, never_no_room}
 
 -- what a number asks for
 pub with_kind : (n : ℕ) (P : Kind → Type 0) (kind : Kind) → Some kind ≡ kind_numbered n → P kind

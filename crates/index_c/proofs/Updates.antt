@@ -2,7 +2,7 @@
 use Rattle.std.proofs.Common.{◌≡◌, ℕ, List, false, None, Ok, Err, inl, inr, arith, sym, ap, ◌∙◌}
 use Rattle.std.specs.Prelude.{Result, IfErr, IfOk}
 use Rattle.gix_index.specs.Kind.{Kind}
-use Rattle.capi_codes.specs.Joined.{LackMemory}
+use Rattle.index_c.specs.Joined.{LackMemory}
 use Rattle.index_c.specs.Updated.{IsRefusedUpdate, UpdateCodes, as_read}
 use Rattle.index_c.specs.Written.{IsImageReported, TableCodes, write_error_report}
 use Rattle.index_c.specs.declared.write.Written.{Written}
@@ -16,7 +16,7 @@ use Rattle.capi_table.specs.declared.row.Row.{Row}
 use Rattle.capi_table.specs.declared.write.Image.{Image}
 use Rattle.capi_table.specs.declared.write.Unwritten.{Unwritten}
 use Rattle.capi_table.specs.declared.write.Unwritten.TheVariants.{NoRoom, Refused, Memory}
-use Rattle.capi_codes.proofs.Refusals.{lack_both, never_done, never_no_room, refused_both}
+use Rattle.index_c.proofs.Refusals.{lack_both, never_done, never_no_room, refused_both}
 use Rattle.index_c.proofs.Writings as writings
 
 -- what comes of changing an index

@@ -19,7 +19,7 @@ use Rattle.capi_table.specs.declared.write.Format.{Format}
 use Rattle.capi_table.specs.declared.write.Image.{Image}
 use Rattle.capi_table.specs.declared.write.Unwritten.{Unwritten}
 use Rattle.capi_table.specs.declared.write.Unwritten.TheVariants.{NoRoom, Refused, Memory}
-use Rattle.capi_codes.proofs.Refusals.{by_error, memory_from, never_done, never_no_room}
+use Rattle.index_c.proofs.Refusals.{by_error, memory_from, never_done, never_no_room}
 
 -- what a form asks for
 pub asked : (f : Form) (P : Format → Type 0) (format : Format) → Asks f format → P format → IsAsked f P

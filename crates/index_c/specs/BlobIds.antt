@@ -4,8 +4,8 @@ use Rattle.gix_index.specs.Hashing.Digest.{digest}
 use Rattle.gix_index.specs.Id.{make_id}
 use Rattle.gix_index.specs.Kind.{Kind}
 use Rattle.gix_index.specs.ObjectId.{ObjectId}
-use Rattle.capi_codes.specs.Numbers.{kind_numbered}
-use Rattle.capi_codes.specs.declared.status.TheConstants.{DONE, WRONG_NUMBER}
+use Rattle.index_c.specs.Numbers.{kind_numbered}
+use Rattle.index_c.specs.declared.status.TheConstants.{DONE, WRONG_NUMBER}
 use Rattle.capi_table.specs.Table.{padded_id}
 
 -- what is hashed: the object's type, a space, the number of bytes, a NUL, and the bytes

@@ -10,14 +10,14 @@ use Rattle.gix_index.specs.Sorted.{IsFirstFall}
 use Rattle.gix_index.specs.SoundState.{AreSoundExtensions}
 use Rattle.gix_index.specs.TreeError.{Error as TreeError}
 use Rattle.gix_index.specs.TreeError.TheVariants as trees
-use Rattle.capi_codes.specs.Summaries.{FailureCodes, MemoryCodes, size_summary}
+use Rattle.index_c.specs.Summaries.{FailureCodes, MemoryCodes, size_summary}
 use Rattle.index_c.specs.declared.check.Flaw.{Flaw}
 use Rattle.index_c.specs.declared.check.Flaw.TheVariants as flaws
 use Rattle.index_c.specs.declared.check.Found.{Found}
-use Rattle.capi_codes.specs.declared.fault.TheConstants.{CACHED_TREE, ORDER}
-use Rattle.capi_codes.specs.declared.number.TheConstants.{OWN}
-use Rattle.capi_codes.specs.declared.status.TheConstants.{DONE, MEMORY, REFUSED}
-use Rattle.capi_codes.specs.declared.summary.Summary.{Summary}
+use Rattle.index_c.specs.declared.fault.TheConstants.{CACHED_TREE, ORDER}
+use Rattle.index_c.specs.declared.number.TheConstants.{OWN}
+use Rattle.index_c.specs.declared.status.TheConstants.{DONE, MEMORY, REFUSED}
+use Rattle.index_c.specs.declared.summary.Summary.{Summary}
 use Rattle.capi_table.specs.Joining.{AreReadSo}
 use Rattle.capi_table.specs.Reading.{IsReadSo, sizes_of}
 use Rattle.capi_table.specs.declared.fault.Failure.{Failure}

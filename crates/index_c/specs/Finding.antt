@@ -10,7 +10,7 @@ use Rattle.gix_index.specs.Range.{IsPrefixRange, LiesWithin}
 use Rattle.gix_index.specs.Record.{Record}
 use Rattle.gix_index.specs.Searching.Folded.{folded_closest}
 use Rattle.index_c.specs.declared.prefix.Places.{Places}
-use Rattle.capi_codes.specs.declared.status.TheConstants.{DONE, NONE}
+use Rattle.index_c.specs.declared.status.TheConstants.{DONE, NONE}
 use Rattle.base_search.specs.Halving.{IsPartedAt}
 use Rattle.capi_table.specs.Table.{records_of}
 use Rattle.capi_table.specs.declared.row.Row.{Row}

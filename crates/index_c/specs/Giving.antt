@@ -2,12 +2,12 @@
 -- field).
 use Rattle.std.specs.Prelude.{◌≡◌, ℕ, Result, Ok, Err}
 use Rattle.index_c.specs.declared.trees.Given.{Given}
-use Rattle.capi_codes.specs.Numbers.{table_number, table_place}
-use Rattle.capi_codes.specs.declared.status.TheConstants.{DONE, MEMORY, NO_ROOM, REFUSED}
+use Rattle.index_c.specs.Numbers.{table_number, table_place}
+use Rattle.index_c.specs.declared.status.TheConstants.{DONE, MEMORY, NO_ROOM, REFUSED}
 use Rattle.capi_table.specs.declared.write.Fault.{Fault}
-use Rattle.capi_trees.specs.declared.trees.Counts.{Counts}
-use Rattle.capi_trees.specs.declared.trees.Unmade.{Unmade}
-use Rattle.capi_trees.specs.declared.trees.Unmade.TheVariants.{NoRoom, Refused, Memory}
+use Rattle.capi_table.specs.declared.trees.Counts.{Counts}
+use Rattle.capi_table.specs.declared.trees.Unmade.{Unmade}
+use Rattle.capi_table.specs.declared.trees.Unmade.TheVariants.{NoRoom, Refused, Memory}
 
 -- the report of these numbers of trees and bytes
 abbrev pub counts_report : Counts → Given

@@ -7,3 +7,7 @@ pub mod Reads
 pub mod Updated
 pub mod Writes
 pub mod Written
+pub mod Joined
+pub mod Numbers
+pub mod Statuses
+pub mod Summaries

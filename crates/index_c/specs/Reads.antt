@@ -5,12 +5,12 @@ use Rattle.gix_index.specs.Contents.{Contents}
 use Rattle.gix_index.specs.Kind.{Kind}
 use Rattle.index_c.specs.Checking.{AreSoundBoth, AreUnsoundBoth, IsCheckResult, IsSoundSummary, IsUnsoundIndex}
 use Rattle.index_c.specs.declared.check.Found.{Found}
-use Rattle.capi_codes.specs.Joined.{AreRefusedBoth, LackMemory}
-use Rattle.capi_codes.specs.Numbers.{kind_numbered}
-use Rattle.capi_codes.specs.Statuses.{KindStatusCause}
-use Rattle.capi_codes.specs.Summaries.{HasText, IsRefusedIndex, IsSummaryWith, IsUnread, blank}
-use Rattle.capi_codes.specs.declared.status.TheConstants.{DONE, MEMORY, REFUSED, WRONG_NUMBER}
-use Rattle.capi_codes.specs.declared.summary.Summary.{Summary}
+use Rattle.index_c.specs.Joined.{AreRefusedBoth, LackMemory}
+use Rattle.index_c.specs.Numbers.{kind_numbered}
+use Rattle.index_c.specs.Statuses.{KindStatusCause}
+use Rattle.index_c.specs.Summaries.{HasText, IsRefusedIndex, IsSummaryWith, IsUnread, blank}
+use Rattle.index_c.specs.declared.status.TheConstants.{DONE, MEMORY, REFUSED, WRONG_NUMBER}
+use Rattle.index_c.specs.declared.summary.Summary.{Summary}
 use Rattle.capi_table.specs.Joining.{AreReadSo, FailBoth}
 use Rattle.capi_table.specs.Reading.{FailsOwn, Fills, IsReadSo, IsTooSmall}
 use Rattle.capi_table.specs.declared.fault.Failure.{Failure}

@@ -2,10 +2,10 @@
 -- field).
 use Rattle.std.specs.Prelude.{ℕ, ◌⊎◌, false, List, Result, Ok, Err}
 use Rattle.gix_index.specs.Kind.{Kind}
-use Rattle.capi_codes.specs.Joined.{AreRefusedBoth}
-use Rattle.capi_codes.specs.Summaries.{FailureCodes, error_summary}
+use Rattle.index_c.specs.Joined.{AreRefusedBoth}
+use Rattle.index_c.specs.Summaries.{FailureCodes, error_summary}
 use Rattle.index_c.specs.Written.{IsWriteErrorReported, TableCodes}
-use Rattle.capi_codes.specs.declared.summary.Summary.{Summary}
+use Rattle.index_c.specs.declared.summary.Summary.{Summary}
 use Rattle.index_c.specs.declared.write.Written.{Written}
 use Rattle.capi_table.specs.Refusing.{IsUnupdated}
 use Rattle.capi_table.specs.declared.fault.Failure.{Failure}

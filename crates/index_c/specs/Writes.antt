@@ -10,10 +10,10 @@ use Rattle.index_c.specs.Written.{LeavesBlank}
 use Rattle.index_c.specs.declared.trees.Given.{Given}
 use Rattle.index_c.specs.declared.write.Form.{Form}
 use Rattle.index_c.specs.declared.write.Written.{Written}
-use Rattle.capi_codes.specs.Joined.{LackMemory}
-use Rattle.capi_codes.specs.Statuses.{StatusCause, KindStatusCause}
-use Rattle.capi_codes.specs.declared.number.TheConstants.{NO_TREE, OWN}
-use Rattle.capi_codes.specs.declared.status.TheConstants.{DONE, WRONG_NUMBER}
+use Rattle.index_c.specs.Joined.{LackMemory}
+use Rattle.index_c.specs.Statuses.{StatusCause, KindStatusCause}
+use Rattle.index_c.specs.declared.number.TheConstants.{NO_TREE, OWN}
+use Rattle.index_c.specs.declared.status.TheConstants.{DONE, WRONG_NUMBER}
 use Rattle.capi_table.specs.Fitting.{IsFitTable}
 use Rattle.capi_table.specs.Overwriting.{WritesOver, full_options}
 use Rattle.capi_table.specs.Reading.{LacksMemory}
@@ -22,9 +22,9 @@ use Rattle.capi_table.specs.Writing.{HasImage, IsUnwritten, PassesRoom, Spells, 
 use Rattle.capi_table.specs.declared.over.CachedTree.TheVariants.{Absent}
 use Rattle.capi_table.specs.declared.row.Row.{Row}
 use Rattle.capi_table.specs.declared.write.Format.{Format}
-use Rattle.capi_trees.specs.Blaming.{HasNoTrees}
-use Rattle.capi_trees.specs.Trees.{HoldTrees, MakesTrees, PassRoom}
-use Rattle.capi_trees.specs.declared.trees.Tree.{Tree}
+use Rattle.capi_table.specs.Blaming.{HasNoTrees}
+use Rattle.capi_table.specs.Trees.{HoldTrees, MakesTrees, PassRoom}
+use Rattle.capi_table.specs.declared.trees.Tree.{Tree}
 
 -- what each status states about the format that a form requests
 abbrev pub FormatStatusCause : Form → (Done Refused Lacks Passes : Format → Type 0) → ℕ → Type 0

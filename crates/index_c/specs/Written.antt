@@ -5,10 +5,10 @@ use Rattle.gix_index.specs.Answer.{Fault}
 use Rattle.gix_index.specs.EntryImage.{version_code}
 use Rattle.gix_index.specs.FileFaults.ReadError.{Error as ReadError}
 use Rattle.gix_index.specs.Kind.{Kind}
-use Rattle.capi_codes.specs.Numbers.{IsNumbered, choice_numbered, fault_number, fault_place, kind_numbered, read_status}
-use Rattle.capi_codes.specs.Numbers.{table_number, table_place, tree_number}
-use Rattle.capi_codes.specs.declared.number.TheConstants.{NO_TREE, OWN}
-use Rattle.capi_codes.specs.declared.status.TheConstants.{DONE, MEMORY, NO_ROOM, REFUSED, WRONG_NUMBER}
+use Rattle.index_c.specs.Numbers.{IsNumbered, choice_numbered, fault_number, fault_place, kind_numbered, read_status}
+use Rattle.index_c.specs.Numbers.{table_number, table_place, tree_number}
+use Rattle.index_c.specs.declared.number.TheConstants.{NO_TREE, OWN}
+use Rattle.index_c.specs.declared.status.TheConstants.{DONE, MEMORY, NO_ROOM, REFUSED, WRONG_NUMBER}
 use Rattle.index_c.specs.declared.write.Form.{Form}
 use Rattle.index_c.specs.declared.write.Written.{Written}
 use Rattle.capi_table.specs.Overwriting.{IsUnwrittenOver}

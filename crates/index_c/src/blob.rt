@@ -3,8 +3,8 @@
 ghost use Rattle.std.specs.Prelude.{◌≡◌};
 ghost use Rattle.index_c.specs.BlobIds.{GivesBlobId, blob_id};
 
-use capi_codes::number::kind_of;
-use capi_codes::status::{DONE, WRONG_NUMBER};
+use crate::number::kind_of;
+use crate::status::{DONE, WRONG_NUMBER};
 use capi_table::row::padded_id;
 use gix_index::hash::{Hasher, Kind, ObjectId};
 use itoa::Buffer;

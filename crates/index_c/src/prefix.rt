@@ -7,9 +7,9 @@ ghost use Rattle.entry_lookup.specs.SearchSteps.{prefix_answers};
 ghost use Rattle.base_search.specs.Prefix.{prefix_cmp};
 ghost use Rattle.capi_table.specs.Table.{records_of, row_path};
 
+use crate::status::{DONE, NONE};
 use base_search::ordered::{Ordered, part, part_within};
 use base_search::prefix::compare_pieces;
-use capi_codes::status::{DONE, NONE};
 use capi_table::row::{Row, path_of};
 use std::cmp::Ordering;
 use std::ops::Range;

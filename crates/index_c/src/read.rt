@@ -1,12 +1,12 @@
 //! Reading an index into a caller's table.
 
 ghost use Rattle.index_c.specs.Reads.{ReadsSplit, ReadsTable};
-ghost use Rattle.capi_codes.specs.Statuses.{SummaryCodes};
-ghost use Rattle.capi_codes.specs.Summaries.{ReadCodes};
+ghost use Rattle.index_c.specs.Statuses.{SummaryCodes};
+ghost use Rattle.index_c.specs.Summaries.{ReadCodes};
 
-use capi_codes::number::kind_of;
-use capi_codes::status::{DONE, NO_ROOM};
-use capi_codes::summary::{Summary, summary_of, tell_failure, tell_wrong_number};
+use crate::number::kind_of;
+use crate::status::{DONE, NO_ROOM};
+use crate::summary::{Summary, summary_of, tell_failure, tell_wrong_number};
 use capi_table::read::{Sizes, Unread, read_table};
 use capi_table::row::Row;
 use capi_table::split::read_split;

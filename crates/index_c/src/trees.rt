@@ -4,11 +4,11 @@ ghost use Rattle.std.specs.Prelude.{◌≡◌, ◌≤◌};
 ghost use Rattle.index_c.specs.Giving.{TreesCodes, counts_report, error_report};
 ghost use Rattle.index_c.specs.Writes.{GivesTrees};
 
-use capi_codes::fault::number_of_table;
-use capi_codes::number::kind_of;
-use capi_codes::status::{DONE, MEMORY, NO_ROOM, REFUSED, WRONG_NUMBER};
+use crate::fault::number_of_table;
+use crate::number::kind_of;
+use crate::status::{DONE, MEMORY, NO_ROOM, REFUSED, WRONG_NUMBER};
 use capi_table::row::Row;
-use capi_trees::trees::{Counts, Tree, Unmade, write_trees};
+use capi_table::trees::{Counts, Tree, Unmade, write_trees};
 use std::alloc::Global;
 
 /// What a call that gives trees reports in addition to its status.

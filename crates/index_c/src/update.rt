@@ -3,11 +3,11 @@
 ghost use Rattle.index_c.specs.Updated.{SharedFailureCodes, UpdateCodes};
 ghost use Rattle.index_c.specs.Writes.{Changes};
 ghost use Rattle.index_c.specs.Written.{NoTreeCodes};
-ghost use Rattle.capi_codes.specs.declared.status.TheConstants.{MEMORY, NO_ROOM};
+ghost use Rattle.index_c.specs.declared.status.TheConstants.{MEMORY, NO_ROOM};
 
+use crate::fault::{number_of_error, status_of_error};
+use crate::number::{kind_of, number_of_whose};
 use crate::write::{Written, tell, tell_wrong_number, told_of_fault};
-use capi_codes::fault::{number_of_error, status_of_error};
-use capi_codes::number::{kind_of, number_of_whose};
 use capi_table::fault::Failure;
 use capi_table::over::CachedTree;
 use capi_table::row::Row;

@@ -4,9 +4,9 @@ ghost use Rattle.std.specs.Prelude.{◌≡◌, ◌↔◌, IfSome, None};
 ghost use Rattle.index_c.specs.Writes.{WritesForm, WritesInPlace};
 ghost use Rattle.index_c.specs.Written.{Asks, HasWrongNumber, TableCodes, ReplaceCodes, UnreadCodes, WrittenCodes, WrongNumberCodes, write_error_report, image_report};
 
-use capi_codes::fault::{number_of_error, number_of_table, status_of_error};
-use capi_codes::number::{OWN, choice_of, kind_of, number_of_tree};
-use capi_codes::status::{DONE, MEMORY, NO_ROOM, REFUSED, WRONG_NUMBER};
+use crate::fault::{number_of_error, number_of_table, status_of_error};
+use crate::number::{OWN, choice_of, kind_of, number_of_tree};
+use crate::status::{DONE, MEMORY, NO_ROOM, REFUSED, WRONG_NUMBER};
 use capi_table::over::{CachedTree, Replacement, write_over};
 use capi_table::row::Row;
 use capi_table::write::{Format, Image, Unwritten, write_table};

@@ -10,9 +10,9 @@ use Rattle.std.proofs.lemmas.List.Sums.{fails_before_first}
 use Rattle.index_parts.specs.Id.{id_bytes, id_kind, is_null}
 use Rattle.index_parts.specs.declared.hash.Kind.{Kind}
 use Rattle.index_parts.specs.declared.hash.Kind.TheVariants as hashes
-use Rattle.base_objects.specs.Mode.{named_kind}
-use Rattle.base_objects.specs.declared.object.tree.EntryKind.{EntryKind}
-use Rattle.base_objects.specs.declared.object.tree.EntryKind.TheVariants as kinds
+use Rattle.index_parts.specs.Mode.{named_kind}
+use Rattle.index_parts.specs.declared.object.tree.EntryKind.{EntryKind}
+use Rattle.index_parts.specs.declared.object.tree.EntryKind.TheVariants as kinds
 use Rattle.entry_list.specs.declared.Pathless.{Pathless}
 use Rattle.entry_edit.specs.Changes.{added_len, change_fault, refusal_from, room_fault}
 use Rattle.entry_edit.specs.Refusals.{Check, fault_as, staged_entry_fault, id_fault, kind_fault, names_fault, names_of, path_fault}

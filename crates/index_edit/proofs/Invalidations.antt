@@ -9,8 +9,8 @@ use Rattle.ext_untracked.specs.UntrackedEdits.{path_invalidated}
 use Rattle.ext_untracked.proofs.Invalidating.{ids_stay}
 use Rattle.entry_edit.specs.Changes.{change_path}
 use Rattle.entry_edit.specs.declared.change.Change.{Change}
-use Rattle.ext_invalidate.specs.Invalidation.{invalidated}
-use Rattle.ext_invalidate.proofs.Below.{counts_stay}
+use Rattle.ext_tree.specs.Invalidation.{invalidated}
+use Rattle.ext_tree.proofs.Below.{counts_stay}
 use Rattle.index_edit.specs.Invalidated.{all_invalidated, all_unlisted}
 
 -- a value after changes, by what comes of it by the path of one

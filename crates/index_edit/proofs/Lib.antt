@@ -14,3 +14,6 @@ pub mod SpellableSides
 pub mod StorableChanges
 pub mod UndoSwaps
 pub mod Watches
+mod Eithers
+mod Markings
+mod Spellables

@@ -15,8 +15,8 @@ use Rattle.entry_edit.specs.Changes.{applied, change_path, first_rejection}
 use Rattle.entry_edit.specs.Refusals.{Check, staged_entry_fault}
 use Rattle.entry_edit.specs.declared.change.Change.{Change}
 use Rattle.entry_edit.specs.declared.change.Change.TheVariants.{Stage, Unstage}
-use Rattle.ext_invalidate.specs.Invalidation.{invalidated}
-use Rattle.ext_invalidate.proofs.StorableTrees.{storable_stays}
+use Rattle.ext_tree.specs.Invalidation.{invalidated}
+use Rattle.ext_tree.proofs.StorableTrees.{storable_stays}
 use Rattle.index_model.specs.Contents.{Contents}
 use Rattle.index_model.specs.Storable.{IsStorable}
 use Rattle.index_edit.specs.Invalidated.{all_invalidated}

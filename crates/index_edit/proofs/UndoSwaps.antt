@@ -22,7 +22,7 @@ use Rattle.entry_edit.specs.declared.change.Change.{Change}
 use Rattle.entry_edit.specs.declared.change.Change.TheVariants as changes
 use Rattle.ext_small.specs.ResolveUndo.{PathStages}
 use Rattle.index_edit.specs.Recorded.{recorded}
-use Rattle.index_fsmonitor.specs.Dirty.{is_replaced}
+use Rattle.index_edit.specs.Dirty.{is_replaced}
 use Rattle.index_edit.specs.Undone.{all_recorded, is_lost, lost}
 use Rattle.index_edit.proofs.Sides.{AreSidesApart, recorded_swap}
 

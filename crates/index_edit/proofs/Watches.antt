@@ -8,7 +8,7 @@ use Rattle.entry_list.proofs.Storing.{records_grow}
 use Rattle.entry_list.specs.Order.{IsStrictlyOrdered}
 use Rattle.entry_list.specs.Record.{IsPlaced, Record, records_in}
 use Rattle.entry_list.specs.declared.Entry.{Entry}
-use Rattle.index_fsmonitor.specs.Dirty.{monitor_after}
+use Rattle.index_edit.specs.Dirty.{monitor_after}
 use Rattle.ext_small.specs.FsMonitor.{Monitor}
 
 -- the old entries by the storage that has grown, and the new ones

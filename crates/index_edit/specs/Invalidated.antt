@@ -10,7 +10,7 @@ use Rattle.ext_untracked.specs.declared.UntrackedCache.{UntrackedCache}
 use Rattle.ext_untracked.specs.UntrackedEdits.{path_invalidated}
 use Rattle.entry_edit.specs.Changes.{change_path}
 use Rattle.entry_edit.specs.declared.change.Change.{Change}
-use Rattle.ext_invalidate.specs.Invalidation.{invalidated}
+use Rattle.ext_tree.specs.Invalidation.{invalidated}
 
 -- the tree after the paths of the changes are invalidated, one after another
 unfoldable pub all_invalidated : List Change → Node → Node

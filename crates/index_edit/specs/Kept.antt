@@ -10,7 +10,7 @@ use Rattle.ext_small.specs.declared.fs_monitor.FsMonitor.{FsMonitor}
 use Rattle.ext_untracked.specs.Untracked.{CacheIdsAreOf, cache_of}
 use Rattle.entry_edit.specs.Changes.{applied}
 use Rattle.entry_edit.specs.declared.change.Change.{Change}
-use Rattle.index_fsmonitor.specs.Dirty.{monitor_after}
+use Rattle.index_edit.specs.Dirty.{monitor_after}
 use Rattle.index_edit.specs.Invalidated.{CountsNoMore, InvalidatesAll, UnlistsAll}
 use Rattle.index_edit.specs.Rising.{ArePathsRising}
 use Rattle.index_edit.specs.Undone.{undo_paths, undone}

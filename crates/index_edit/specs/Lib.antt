@@ -10,3 +10,5 @@ pub mod StillStorable
 pub mod Undone
 pub mod UpdateSteps
 pub mod Updates
+pub mod Dirty
+pub mod DirtySteps

@@ -8,7 +8,7 @@ use Rattle.entry_list.specs.Order.{record_stage}
 use Rattle.entry_list.specs.Record.{Record}
 use Rattle.entry_edit.specs.Changes.{applied_one, takes_out}
 use Rattle.entry_edit.specs.declared.change.Change.{Change}
-use Rattle.index_fsmonitor.specs.Dirty.{is_replaced}
+use Rattle.index_edit.specs.Dirty.{is_replaced}
 use Rattle.ext_small.specs.ResolveUndo.{PathStages, path_stages}
 use Rattle.ext_small.specs.declared.resolve_undo.ResolvePath.{ResolvePath}
 use Rattle.index_edit.specs.Recorded.{recorded}

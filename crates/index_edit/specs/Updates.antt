@@ -6,7 +6,7 @@ use Rattle.entry_edit.specs.Changes.{applied}
 use Rattle.entry_edit.specs.declared.change.Change.{Change}
 use Rattle.index_model.specs.Contents.{Contents, parts_contents, parts_entries, parts_storage}
 use Rattle.index_model.specs.declared.Parts.{Parts}
-use Rattle.index_fsmonitor.specs.Dirty.{monitor_after}
+use Rattle.index_edit.specs.Dirty.{monitor_after}
 use Rattle.index_edit.specs.Invalidated.{all_invalidated, all_unlisted}
 use Rattle.index_edit.specs.Undone.{undone}
 

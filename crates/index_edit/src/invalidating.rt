@@ -7,8 +7,8 @@ ghost use Rattle.index_edit.specs.Invalidated.{CountsNoMore, InvalidatesAll, Unl
 ghost use Rattle.index_edit.specs.Invalidated.{all_invalidated, all_unlisted};
 
 use entry_edit::change::Change;
-use ext_invalidate::invalidate;
 use ext_tree::Tree;
+use ext_tree::invalidate::invalidate;
 use ext_untracked::{UntrackedCache, invalidation};
 
 /// Invalidates the path of each change, one after another.

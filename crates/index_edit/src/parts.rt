@@ -6,13 +6,13 @@ ghost use Rattle.index_edit.specs.PartsUpdates.{with_kept, without_kept};
 
 use crate::kept::Kept;
 use crate::{single, update};
-use base_objects::check::ComponentCheck;
 use entry_edit::change::{ApplyError, Change};
 use entry_edit::error::Error;
 use entry_edit::stage::Displaced;
 use entry_list::Pathless;
 use index_model::Parts;
 use index_model::extension::Outcome;
+use index_parts::check::ComponentCheck;
 
 /// Takes out the extensions that are updated when entries change.
 fn take_kept(extensions: &mut Outcome) -> Kept

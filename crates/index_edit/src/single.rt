@@ -9,11 +9,11 @@ ghost use Rattle.entry_list.specs.Record.{records_in};
 ghost use Rattle.index_edit.specs.EntryUpdates.{KeepsOne, ResolvesOne, StagesOne, TakesPath, UnstagesOne};
 ghost use Rattle.index_edit.specs.UpdateSteps.{IsUndoneAfter, ReportsRemoved, ReportsStaged};
 
+use crate::dirty::monitor_after;
 use crate::kept::Kept;
 use crate::losing::record_lost;
 use crate::recording::are_rising;
 use crate::update::{copy_of, renew};
-use base_objects::check::ComponentCheck;
 use entry_edit::change::Change;
 use entry_edit::error::Error;
 use entry_edit::resolve::to_stage_zero;
@@ -23,7 +23,7 @@ use entry_list::slice::EntrySlice;
 use entry_list::{Entry, PathStorage, Pathless};
 use ext_small::FsMonitor;
 use ext_small::resolve_undo::Paths;
-use index_fsmonitor::dirty::monitor_after;
+use index_parts::check::ComponentCheck;
 use index_parts::hash::Kind;
 use std::alloc::{AllocError, Global};
 

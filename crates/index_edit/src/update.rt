@@ -9,11 +9,11 @@ ghost use Rattle.index_edit.specs.Undone.{undo_paths};
 ghost use Rattle.index_edit.specs.UpdateSteps.{AppliesNext, IsKnownAt, RecordsNext, UpdatesKept, UpdatesEntries};
 ghost use Rattle.index_edit.specs.UpdateSteps.{UpdatesWatched};
 
+use crate::dirty::monitor_after;
 use crate::invalidating::{invalidate_all, unlist_all};
 use crate::kept::Kept;
 use crate::losing::record_lost;
 use crate::recording::are_rising;
-use base_objects::check::ComponentCheck;
 use entry_edit::ahead::Ahead;
 use entry_edit::apply::{apply_one, clear_after, pass};
 use entry_edit::change::{ApplyError, Change, check_changes};
@@ -22,7 +22,7 @@ use entry_list::slice::EntrySlice;
 use entry_list::{Entry, PathStorage};
 use ext_small::FsMonitor;
 use ext_small::resolve_undo::Paths;
-use index_fsmonitor::dirty::monitor_after;
+use index_parts::check::ComponentCheck;
 use index_parts::hash::Kind;
 use std::alloc::AllocError;
 

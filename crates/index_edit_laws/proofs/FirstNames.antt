@@ -17,7 +17,7 @@ use Rattle.std.proofs.lemmas.List.Quantifiers.{position-Some}
 use Rattle.std.proofs.lemmas.List.Sums.{fails_before_first}
 use Rattle.std.proofs.Math.Seq.{drop-cons}
 use Rattle.ext_tree.specs.Tree.{Node, node_name}
-use Rattle.ext_invalidate.specs.Invalidation.{is_node_named}
+use Rattle.ext_tree.specs.Invalidation.{is_node_named}
 use Rattle.index_parts.specs.Path.{slash_of}
 use Rattle.tree_encode.specs.TreeIds.{behind}
 use Rattle.tree_encode.proofs.Behinds.{behind_at}

@@ -12,10 +12,10 @@ use Rattle.std.proofs.lemmas.List.Sums.{fails_before_first}
 use Rattle.index_parts.specs.Id.{id_bytes, id_kind, id_len, is_null}
 use Rattle.index_parts.specs.declared.hash.Kind.{Kind}
 use Rattle.index_parts.specs.declared.hash.Kind.TheVariants as hashes
-use Rattle.base_objects.specs.Mode.{named_kind}
-use Rattle.base_objects.specs.NameCheck.{refusal_as}
-use Rattle.base_objects.specs.declared.object.tree.EntryKind.{EntryKind}
-use Rattle.base_objects.specs.declared.object.tree.EntryKind.TheVariants as kinds
+use Rattle.index_parts.specs.Mode.{named_kind}
+use Rattle.index_parts.specs.NameCheck.{refusal_as}
+use Rattle.index_parts.specs.declared.object.tree.EntryKind.{EntryKind}
+use Rattle.index_parts.specs.declared.object.tree.EntryKind.TheVariants as kinds
 use Rattle.entry_list.specs.EntryImage.{is_removed}
 use Rattle.entry_list.specs.Record.{Record, with_path}
 use Rattle.entry_list.specs.declared.Pathless.{Pathless}

@@ -10,8 +10,8 @@ use Rattle.std.proofs.lemmas.List.Elements.{filter_passes}
 use Rattle.entry_list.specs.EntryImage.{is_removed}
 use Rattle.entry_list.specs.Order.{record_stage}
 use Rattle.entry_list.specs.Record.{Record, with_path}
-use Rattle.base_objects.specs.Mode.{named_kind}
-use Rattle.base_objects.specs.declared.object.tree.EntryKind.{EntryKind}
+use Rattle.index_parts.specs.Mode.{named_kind}
+use Rattle.index_parts.specs.declared.object.tree.EntryKind.{EntryKind}
 use Rattle.entry_lookup.specs.Lookup.{insertion_of}
 use Rattle.entry_lookup.specs.Range.{is_at}
 use Rattle.entry_edit.specs.Changes.{applied_one, change_path}

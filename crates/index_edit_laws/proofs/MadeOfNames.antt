@@ -11,9 +11,9 @@ use Rattle.std.proofs.lemmas.List.{append-nil, get_or-take}
 use Rattle.std.proofs.lemmas.List.Elements.{All-drop, All-take}
 use Rattle.std.proofs.lemmas.List.Quantifiers.{position-Some}
 use Rattle.std.proofs.lemmas.List.Sums.{fails_before_first, sum_by-append, sum_by-cons}
-use Rattle.base_objects.specs.NameCheck.{refusal_as}
-use Rattle.base_objects.specs.declared.object.tree.EntryKind.{EntryKind}
-use Rattle.base_objects.specs.declared.object.tree.EntryKind.TheVariants as kinds
+use Rattle.index_parts.specs.NameCheck.{refusal_as}
+use Rattle.index_parts.specs.declared.object.tree.EntryKind.{EntryKind}
+use Rattle.index_parts.specs.declared.object.tree.EntryKind.TheVariants as kinds
 use Rattle.entry_edit.specs.Refusals.{Check, name_fault, names_fault, names_of}
 use Rattle.entry_edit.specs.declared.error.Error.TheVariants as errors
 use Rattle.entry_edit.proofs.Names.{first_name, last_name}

@@ -14,7 +14,7 @@ use Rattle.ext_tree.proofs.Storables.{apart_of_rise}
 use Rattle.entry_list.specs.Record.{Record}
 use Rattle.entry_edit.specs.Changes.{applied, applied_one, change_path}
 use Rattle.entry_edit.specs.declared.change.Change.{Change}
-use Rattle.ext_invalidate.specs.Invalidation.{is_node_named, invalidated, invalidated_below}
+use Rattle.ext_tree.specs.Invalidation.{is_node_named, invalidated, invalidated_below}
 use Rattle.index_parts.specs.Path.{slash_of}
 use Rattle.tree_encode.specs.Kept.{HasNamesInOrder, HaveNamesInOrder}
 use Rattle.tree_encode.specs.Staged.{Staged}

@@ -11,7 +11,7 @@ use Rattle.ext_tree.specs.Tree.{Node, Nodes, node, none, more, node_name}
 use Rattle.ext_tree.proofs.Sorted.{names_total}
 use Rattle.entry_edit.specs.Changes.{change_path}
 use Rattle.entry_edit.specs.declared.change.Change.{Change}
-use Rattle.ext_invalidate.specs.Invalidation.{is_node_named, invalidated, invalidated_below}
+use Rattle.ext_tree.specs.Invalidation.{is_node_named, invalidated, invalidated_below}
 use Rattle.index_parts.specs.Path.{slash_of}
 use Rattle.tree_encode.specs.Kept.{HasNamesInOrder, HaveNamesInOrder}
 use Rattle.index_edit.specs.Invalidated.{all_invalidated}

@@ -5,9 +5,9 @@ use Rattle.std.proofs.lemmas.Bool.{ltb-true}
 use Rattle.std.proofs.lemmas.List.{length-map}
 use Rattle.std.specs.Prelude.{IfSome, if◌then◌else◌}
 use Rattle.std.specs.Option.{option_map}
-use Rattle.ext_bitmap_encode.proofs.EncodedBits.{bits_spellable, encoded_len, last_len, words_len}
-use Rattle.ext_bitmap_encode.proofs.WrittenBitmaps.{bitmap_len}
-use Rattle.ext_bitmap_encode.specs.EncodedBitmap.{encoded, up_to_last, words_of}
+use Rattle.ext_bitmap.proofs.EncodedBits.{bits_spellable, encoded_len, last_len, words_len}
+use Rattle.ext_bitmap.proofs.WrittenBitmaps.{bitmap_len}
+use Rattle.ext_bitmap.specs.EncodedBitmap.{encoded, up_to_last, words_of}
 use Rattle.ext_bitmap.specs.Bitmap.{Bitmap}
 use Rattle.ext_bitmap.specs.Ranges.{set_places}
 use Rattle.entry_edit.specs.declared.change.Change.{Change}
@@ -15,7 +15,7 @@ use Rattle.entry_list.specs.Record.{Record}
 use Rattle.ext_encode.specs.MonitorImage.{IsSpellableMonitor}
 use Rattle.ext_encode.specs.SpellableCache.{IsSpellableCache}
 use Rattle.ext_encode.specs.MonitorPlaces.{monitor_is_within}
-use Rattle.index_fsmonitor.specs.Dirty.{is_dirty, monitor_after}
+use Rattle.index_edit.specs.Dirty.{is_dirty, monitor_after}
 use Rattle.index_parts.specs.declared.hash.Kind.{Kind}
 use Rattle.ext_small.specs.FsMonitor.{Monitor}
 use Rattle.ext_untracked.specs.Untracked.{Cache}

@@ -5,9 +5,9 @@ use Rattle.std.specs.List.{Contains}
 use Rattle.std.proofs.lemmas.List.Folds.{list_any_at}
 use Rattle.std.proofs.lemmas.List.Sums.{fails_before_first}
 use Rattle.index_parts.specs.declared.hash.Kind.{Kind}
-use Rattle.base_objects.specs.Mode.{commit_mode, directory_mode, executable_mode, file_mode, link_mode, named_kind}
-use Rattle.base_objects.specs.declared.object.tree.EntryKind.{EntryKind}
-use Rattle.base_objects.specs.declared.object.tree.EntryKind.TheVariants as kinds
+use Rattle.index_parts.specs.Mode.{commit_mode, directory_mode, executable_mode, file_mode, link_mode, named_kind}
+use Rattle.index_parts.specs.declared.object.tree.EntryKind.{EntryKind}
+use Rattle.index_parts.specs.declared.object.tree.EntryKind.TheVariants as kinds
 use Rattle.entry_list.specs.Record.{Record}
 use Rattle.entry_list.specs.declared.Pathless.{Pathless}
 use Rattle.entry_edit.specs.Changes.{change_path}

@@ -9,9 +9,9 @@ use Rattle.index_extensions.specs.EndMarker.{heads}
 use Rattle.index_extensions.specs.Encoding.{item_bytes, marker_item}
 use Rattle.index_extensions.specs.Walk.{Item}
 use Rattle.index_extensions.proofs.WrittenItems.{IsWhole}
-use Rattle.ext_list.specs.Chosen.{Extensions as Chosen, items}
-use Rattle.ext_list.specs.Marked.{marker_if}
-use Rattle.ext_list.proofs.Wholes.{some_whole}
+use Rattle.ext_encode.specs.Chosen.{Extensions as Chosen, items}
+use Rattle.ext_encode.specs.Marked.{marker_if}
+use Rattle.ext_encode.proofs.Wholes.{some_whole}
 use Rattle.entry_list.specs.EntryImage.{header_bytes, written}
 use Rattle.entry_list.specs.declared.write.Precision.{Precision}
 use Rattle.entry_list.specs.declared.write.Precision.TheVariants.{Exact}

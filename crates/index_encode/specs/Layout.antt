@@ -6,9 +6,9 @@ use Rattle.entry_list.specs.EntryImage.{written}
 use Rattle.entry_list.specs.Header.{header_len}
 use Rattle.entry_list.specs.declared.Version.{Version}
 use Rattle.entry_list.specs.declared.write.Precision.{Precision}
-use Rattle.ext_list.specs.Chosen.{Extensions as Chosen}
-use Rattle.ext_list.specs.Listing.{AreLens}
-use Rattle.ext_list.specs.declared.lens.Lens.{Lens}
+use Rattle.ext_encode.specs.Chosen.{Extensions as Chosen}
+use Rattle.ext_encode.specs.Listing.{AreLens}
+use Rattle.ext_encode.specs.declared.lens.Lens.{Lens}
 use Rattle.index_extensions.specs.Encoding.{item_bytes}
 use Rattle.index_model.specs.Contents.{Contents}
 use Rattle.index_model.specs.Image.{asks_for, chosen_extensions, image_version, extension_items, unmarked}

@@ -1,14 +1,15 @@
 //! Computes the lengths of the parts of a file before any of it is written.
 
 ghost use Rattle.std.specs.Prelude.{◌≤◌, ◌<◌, ◌^◌, length, IfSome, IfNone};
-ghost use Rattle.ext_list.specs.Chosen.{extensions_of};
+ghost use Rattle.ext_encode.specs.Chosen.{extensions_of};
 ghost use Rattle.index_model.specs.Image.{unmarked};
 ghost use Rattle.index_model.specs.Contents.{parts_contents};
 ghost use Rattle.index_encode.specs.Layout.{IsLayout, counted_unmarked};
 
 use crate::chosen::chosen_of;
 use entry_list::write::{self, Precision, Totals};
-use ext_list::{Chosen, Lens};
+use ext_encode::Lens;
+use ext_encode::chosen::Chosen;
 use index_model::Parts;
 use index_model::write::Options;
 

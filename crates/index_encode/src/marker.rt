@@ -1,13 +1,14 @@
 //! Decides whether an end marker is written.
 
 ghost use Rattle.std.specs.Prelude.{◌≡◌, ◌<◌, ◌^◌, length};
-ghost use Rattle.ext_list.specs.Chosen.{extensions_of};
-ghost use Rattle.ext_list.specs.Listing.{AreLens};
+ghost use Rattle.ext_encode.specs.Chosen.{extensions_of};
+ghost use Rattle.ext_encode.specs.Listing.{AreLens};
 ghost use Rattle.index_model.specs.Image.{chosen_extensions, has_marker, unmarked};
 ghost use Rattle.index_model.specs.Contents.{parts_contents};
 ghost use Rattle.index_encode.specs.Layout.{wants_marker};
 
-use ext_list::{Chosen, Lens};
+use ext_encode::Lens;
+use ext_encode::chosen::Chosen;
 use index_extensions::end_of_index_entry;
 use index_model::Parts;
 use index_model::write::Options;

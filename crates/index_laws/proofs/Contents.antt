@@ -6,15 +6,15 @@ use Rattle.std.proofs.lemmas.List.Elements.{All-from_recursion}
 use Rattle.index_parts.proofs.Digests.{length-digest}
 use Rattle.index_parts.specs.Digest.{digest}
 use Rattle.index_parts.specs.Id.{id_kind, id_bytes, id_len, make_id}
-use Rattle.base_objects.specs.Mode.{mode_of_kind}
+use Rattle.index_parts.specs.Mode.{mode_of_kind}
 use Rattle.index_parts.specs.Octal.{IsOctal, IsOctalDigit}
-use Rattle.base_objects.specs.TreeObject.{TreeEntry, IsTreeEntry, IsTreeObject, kind_of_mode}
+use Rattle.index_parts.specs.TreeObject.{TreeEntry, IsTreeEntry, IsTreeObject, kind_of_mode}
 use Rattle.index_parts.specs.declared.hash.Kind.{Kind}
 use Rattle.index_parts.specs.declared.hash.Kind.TheVariants as hashes
 use Rattle.index_parts.specs.declared.hash.ObjectId.{ObjectId}
 use Rattle.index_parts.specs.declared.hash.ObjectId.TheVariants as ids
-use Rattle.base_objects.specs.declared.object.tree.EntryKind.{EntryKind}
-use Rattle.base_objects.specs.declared.object.tree.EntryKind.TheVariants as kinds
+use Rattle.index_parts.specs.declared.object.tree.EntryKind.{EntryKind}
+use Rattle.index_parts.specs.declared.object.tree.EntryKind.TheVariants as kinds
 use Rattle.tree_encode.specs.Directory.{DirectoryItem, DirectoryItems, leaf, directory, no_more, next, IsPathComponent}
 use Rattle.tree_encode.specs.Directory.{IsDirectoryItem, AreDirectoryItems}
 use Rattle.tree_encode.specs.Directory.{content, directory_bytes, directory_item_bytes}

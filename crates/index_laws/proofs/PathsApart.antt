@@ -7,7 +7,7 @@ use Rattle.std.proofs.lemmas.Cmp.{nat_list_cmp_total, tied_itself}
 use Rattle.std.proofs.lemmas.List.{length-append}
 use Rattle.std.proofs.lemmas.List.Elements.{Contains-append_cases, Contains-append_left, Contains-append_right}
 use Rattle.std.proofs.lemmas.List.Elements.{Contains-push, Contains-push_cases}
-use Rattle.base_objects.specs.declared.object.tree.EntryKind.TheVariants as kinds
+use Rattle.index_parts.specs.declared.object.tree.EntryKind.TheVariants as kinds
 use Rattle.entry_list.specs.Order.{path_cmp}
 use Rattle.tree_encode.specs.Refusals.{AreDisjointPaths, HasPathPrefix, IsBelow, IsInside, LiesIn}
 use Rattle.tree_encode.specs.Staged.{Staged}

@@ -6,16 +6,16 @@ use Rattle.std.specs.List.{AllByRecursion}
 use Rattle.std.proofs.lemmas.List.{append-nil, length-append, map-append, nil_from_length}
 use Rattle.std.proofs.lemmas.Option.{same_Some}
 use Rattle.std.proofs.lemmas.List.Elements.{All-from_recursion, filter-append, recursion_from_All}
-use Rattle.base_objects.specs.Mode.{mode_of_kind}
-use Rattle.base_objects.specs.Object.{Found, object}
-use Rattle.base_objects.specs.TreeObject.{TreeEntry, IsTreeObject, kind_of_mode}
+use Rattle.index_parts.specs.Mode.{mode_of_kind}
+use Rattle.index_parts.specs.Object.{Found, object}
+use Rattle.index_parts.specs.TreeObject.{TreeEntry, IsTreeObject, kind_of_mode}
 use Rattle.index_parts.specs.declared.hash.Kind.{Kind}
 use Rattle.index_parts.specs.declared.hash.ObjectId.{ObjectId}
-use Rattle.base_objects.specs.declared.object.Kind.TheVariants as objects
-use Rattle.base_objects.specs.declared.object.tree.EntryKind.{EntryKind}
-use Rattle.base_objects.specs.declared.object.tree.EntryKind.TheVariants as kinds
+use Rattle.index_parts.specs.declared.object.Kind.TheVariants as objects
+use Rattle.index_parts.specs.declared.object.tree.EntryKind.{EntryKind}
+use Rattle.index_parts.specs.declared.object.tree.EntryKind.TheVariants as kinds
 use Rattle.entry_list.specs.Record.{Record}
-use Rattle.base_objects.specs.NameCheck.{refusal_as}
+use Rattle.index_parts.specs.NameCheck.{refusal_as}
 use Rattle.tree_decode.specs.Leaves.{LeavesAnswer, Yields, whole_tree, some_entries, opened, ended, leaf as one_leaf}
 use Rattle.tree_decode.specs.Leaves.{below, leaf_of, with_leaves}
 use Rattle.tree_encode.specs.Directory.{DirectoryItem, DirectoryItems, leaf, directory, no_more, next, IsDirectoryItem}

@@ -12,8 +12,8 @@ use Rattle.index_parts.specs.Id.{id_bytes, id_kind, id_len, is_null}
 use Rattle.index_parts.specs.declared.hash.Kind.{Kind}
 use Rattle.index_parts.specs.declared.hash.Kind.TheVariants as hashes
 use Rattle.entry_fields.specs.Flags.{stage_number}
-use Rattle.base_objects.specs.Mode.{named_kind}
-use Rattle.base_objects.specs.declared.object.tree.EntryKind.{EntryKind}
+use Rattle.index_parts.specs.Mode.{named_kind}
+use Rattle.index_parts.specs.declared.object.tree.EntryKind.{EntryKind}
 use Rattle.entry_list.specs.EntryImage.{is_removed}
 use Rattle.entry_list.specs.Order.{path_cmp, record_cmp}
 use Rattle.entry_list.specs.Record.{IsSized, Record}

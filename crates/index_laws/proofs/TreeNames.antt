@@ -5,9 +5,9 @@ use Rattle.std.specs.Prelude.{◌≢◌}
 use Rattle.std.proofs.lemmas.Bool.{eqb-false, eqb-true}
 use Rattle.std.proofs.lemmas.List.Elements.{All-cons, All-head, All-nil, All-tail}
 use Rattle.std.proofs.lemmas.Option.{same_Some}
-use Rattle.base_objects.specs.declared.object.tree.EntryKind.{EntryKind}
-use Rattle.base_objects.specs.declared.object.tree.EntryKind.TheVariants as kinds
-use Rattle.base_objects.specs.NameCheck.{refusal_as}
+use Rattle.index_parts.specs.declared.object.tree.EntryKind.{EntryKind}
+use Rattle.index_parts.specs.declared.object.tree.EntryKind.TheVariants as kinds
+use Rattle.index_parts.specs.NameCheck.{refusal_as}
 use Rattle.tree_encode.specs.Directory.{IsPathComponent}
 use Rattle.tree_encode.specs.Refusals.{NameCheck, IsBadName, IsMisnamed, IsTreePath, of_file, of_directory, beneath}
 use Rattle.tree_encode.specs.Refusals.{last_name, some_name, no_slash, deep, later_name}

@@ -1,13 +1,13 @@
 -- The objects in a store, and the list that is read from them (git-read-tree).
 use Rattle.std.specs.Prelude.{◌≡◌, ◌≢◌, ℕ, ◌≤◌, List, All, Bool, not, Option, Some, None, Result, Ok, filter, map}
 use Rattle.std.specs.Prelude.{length}
-use Rattle.base_objects.specs.Mode.{mode_of_kind}
-use Rattle.base_objects.specs.NameCheck.{refusal_as}
-use Rattle.base_objects.specs.Object.{Found, object}
+use Rattle.index_parts.specs.Mode.{mode_of_kind}
+use Rattle.index_parts.specs.NameCheck.{refusal_as}
+use Rattle.index_parts.specs.Object.{Found, object}
 use Rattle.index_parts.specs.declared.hash.Kind.{Kind}
 use Rattle.index_parts.specs.declared.hash.ObjectId.{ObjectId}
-use Rattle.base_objects.specs.declared.object.Kind.TheVariants as objects
-use Rattle.base_objects.specs.declared.object.tree.EntryKind.TheVariants as kinds
+use Rattle.index_parts.specs.declared.object.Kind.TheVariants as objects
+use Rattle.index_parts.specs.declared.object.tree.EntryKind.TheVariants as kinds
 use Rattle.entry_list.specs.Record.{Record}
 use Rattle.tree_decode.specs.Leaves.{AreLeaves, LeavesFault, zero_stat}
 use Rattle.tree_encode.specs.Directory as D

@@ -6,7 +6,7 @@ use Rattle.entry_list.specs.Entry.{IsEntry, IsEntry23, IsEntry4, head_bytes}
 use Rattle.entry_list.specs.Record.{AreBytes, Record}
 use Rattle.entry_list.specs.declared.Version.{Version}
 use Rattle.entry_list.specs.declared.Version.TheVariants.{V2, V3, V4}
-use Rattle.ext_bitmap_encode.proofs.WrittenBitmaps.{bytes_behind, bytes_first}
+use Rattle.ext_bitmap.proofs.WrittenBitmaps.{bytes_behind, bytes_first}
 
 behind23 : (kind : Kind) (bytes : List ℕ) (r : Record) (rest : List ℕ) → IsEntry23 kind bytes r rest → AreBytes bytes
     → AreBytes rest

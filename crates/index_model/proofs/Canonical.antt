@@ -19,8 +19,8 @@ use Rattle.entry_list.specs.EntryImage.{chosen_version, entries_in, header_bytes
 use Rattle.entry_list.specs.EntryImage.{written}
 use Rattle.entry_list.specs.Record.{Record, AreBytes, has_directory}
 use Rattle.entry_list.proofs.ReadRecords.{AreKept}
-use Rattle.ext_list.specs.Chosen.{Extensions as Chosen, items}
-use Rattle.ext_list.specs.Marked.{marker_if}
+use Rattle.ext_encode.specs.Chosen.{Extensions as Chosen, items}
+use Rattle.ext_encode.specs.Marked.{marker_if}
 use Rattle.entry_list.specs.declared.Version.{Version}
 use Rattle.ext_small.specs.FsMonitor.{Monitor}
 use Rattle.ext_small.specs.ResolveUndo.{PathStages}

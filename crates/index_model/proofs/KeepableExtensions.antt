@@ -12,7 +12,7 @@ use Rattle.ext_encode.specs.MonitorImage.{IsSpellableMonitor}
 use Rattle.ext_encode.specs.ResolveUndoImage.{AreSpellablePaths}
 use Rattle.ext_encode.specs.SpellableCache.{IsSpellableBlock, IsSpellableCache, names_are_some}
 use Rattle.ext_encode.proofs.CacheRead.{cache_spellable}
-use Rattle.ext_bitmap_encode.proofs.WrittenBitmaps.{be_four, bytes_behind, bytes_first}
+use Rattle.ext_bitmap.proofs.WrittenBitmaps.{be_four, bytes_behind, bytes_first}
 use Rattle.ext_encode.proofs.WrittenMonitors.{monitor_spellable}
 use Rattle.ext_encode.proofs.WrittenPaths.{paths_spellable}
 use Rattle.index_model.specs.Outcome.{IsOutcome, Outcome}

@@ -22,8 +22,8 @@ use Rattle.ext_encode.specs.SpellableCache.{IsSpellableCache, names_are_some}
 use Rattle.index_model.specs.Outcome.{Outcome}
 use Rattle.ext_small.specs.FsMonitor.{Monitor}
 use Rattle.ext_untracked.specs.Untracked.{Cache}
-use Rattle.ext_list.specs.Chosen.{items}
-use Rattle.ext_list.specs.Marked.{AreSpellable}
+use Rattle.ext_encode.specs.Chosen.{items}
+use Rattle.ext_encode.specs.Marked.{AreSpellable}
 use Rattle.index_model.specs.Keepable.{AreKeepable}
 use Rattle.index_model.specs.Kept.{cache_with_names, kept, monitor_within, where_fit}
 

@@ -20,8 +20,8 @@ use Rattle.entry_fields.specs.declared.entry.stat.FileTime.{FileTime}
 use Rattle.index_extensions.specs.EndMarker.{heads, EndsInMarker, IsMarker}
 use Rattle.index_extensions.specs.Encoding.{item_bytes, marker_item}
 use Rattle.index_extensions.specs.Walk.{Item, AreItems}
-use Rattle.ext_list.specs.Marked.{marker_if}
-use Rattle.ext_list.proofs.Wholes.{all_whole, some_whole}
+use Rattle.ext_encode.specs.Marked.{marker_if}
+use Rattle.ext_encode.proofs.Wholes.{all_whole, some_whole}
 use Rattle.index_extensions.proofs.Walks.{no_empty}
 use Rattle.index_extensions.proofs.WrittenItems.{IsWhole, items_there, marker_there}
 use Rattle.entry_list.specs.declared.Version.{Version}

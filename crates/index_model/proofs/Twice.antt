@@ -7,7 +7,7 @@ use Rattle.ext_tree.specs.Tree.{Node}
 use Rattle.entry_list.specs.EntryImage.{stored_records, written}
 use Rattle.entry_list.specs.Record.{Record, has_directory}
 use Rattle.entry_list.proofs.Kept.{records_twice}
-use Rattle.ext_list.specs.Chosen.{Extensions as Chosen}
+use Rattle.ext_encode.specs.Chosen.{Extensions as Chosen}
 use Rattle.ext_small.specs.FsMonitor.{Monitor}
 use Rattle.ext_untracked.specs.Untracked.{Cache}
 use Rattle.index_model.specs.declared.write.Options.{Options}

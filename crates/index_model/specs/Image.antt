@@ -6,8 +6,8 @@ use Rattle.std.specs.List.{flat_map}
 use Rattle.index_parts.specs.Digest.{digest}
 use Rattle.index_parts.specs.Id.{id_len}
 use Rattle.index_extensions.specs.Encoding.{item_bytes}
-use Rattle.ext_list.specs.Chosen.{Extensions as Chosen, items}
-use Rattle.ext_list.specs.Marked.{marker_if}
+use Rattle.ext_encode.specs.Chosen.{Extensions as Chosen, items}
+use Rattle.ext_encode.specs.Marked.{marker_if}
 use Rattle.index_extensions.specs.Walk.{Item}
 use Rattle.entry_list.specs.EntryImage.{chosen_version, entries_in, header_bytes, written}
 use Rattle.entry_list.specs.Header.{header_len}

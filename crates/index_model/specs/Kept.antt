@@ -6,7 +6,7 @@ use Rattle.std.specs.Option.{option_map}
 use Rattle.index_parts.specs.declared.hash.Kind.{Kind}
 use Rattle.ext_tree.specs.GitOrder.{in_git_order}
 use Rattle.ext_tree.specs.StoredTree.{stored_node}
-use Rattle.ext_list.specs.Chosen.{Extensions}
+use Rattle.ext_encode.specs.Chosen.{Extensions}
 use Rattle.ext_encode.specs.MonitorPlaces.{monitor_is_within}
 use Rattle.ext_encode.specs.SpellableCache.{names_are_some}
 use Rattle.index_model.specs.Outcome.{Outcome}

@@ -9,3 +9,5 @@ pub mod Splits
 pub mod Steps
 pub mod Taking
 pub mod Puts
+pub mod TreeLists
+pub mod TreeObjects

@@ -9,3 +9,8 @@ pub mod Path
 pub mod ReadingSteps
 pub mod Taking
 pub mod Puts
+pub mod Mode
+pub mod NameCheck
+pub mod Object
+pub mod TreeObject
+pub mod TreeObjectSteps

@@ -7,3 +7,5 @@ pub mod Smudges
 pub mod Storables
 pub mod Verified
 pub mod VerifiedTrees
+pub mod OutlineFaults
+pub mod Outlines

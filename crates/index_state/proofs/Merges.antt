@@ -5,12 +5,12 @@ use Rattle.index_parts.specs.Id.{id_kind}
 use Rattle.index_parts.specs.declared.hash.Kind.{Kind}
 use Rattle.ext_tree.specs.StoredTree.{IsStorableTree}
 use Rattle.entry_list.specs.declared.Entry.{Entry}
-use Rattle.ext_merge.specs.declared.merge.Error.{Error as MergeError}
-use Rattle.ext_merge.specs.declared.merge.Error.TheVariants as merges
-use Rattle.ext_merge.specs.Merge.{replaced, IsMerge, IsMergeFault}
-use Rattle.ext_merge.specs.MergeSteps.{MergeCause, merge_error}
+use Rattle.ext_split.specs.declared.merge.Error.{Error as MergeError}
+use Rattle.ext_split.specs.declared.merge.Error.TheVariants as merges
+use Rattle.ext_split.specs.Merge.{replaced, IsMerge, IsMergeFault}
+use Rattle.ext_split.specs.MergeSteps.{MergeCause, merge_error}
 use Rattle.entry_list.specs.Record.{Record, IsSized, IdsAreOf, records_in}
-use Rattle.ext_merge.proofs.Merged.{all_merged}
+use Rattle.ext_split.proofs.Merged.{all_merged}
 use Rattle.ext_split.specs.Link.{BitmapPair, LinkValue}
 use Rattle.index_state.specs.Dissolve.{IsDissolved, IsMerged, MergesBy, broken, DissolveCause}
 use Rattle.index_model.proofs.Ids.{entries_have, records_of}

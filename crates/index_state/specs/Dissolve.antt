@@ -1,6 +1,6 @@
 -- The state of a split index after its link is dissolved (gitformat-index, "Split index").
 use Rattle.std.specs.Prelude.{◌≡◌, List, ℕ, true, codes, Option, Some, None, IsSome, IfSome, Result, IfErr, IsOk, OnOk, OnErr}
-use Rattle.ext_merge.specs.Merge.{IsMerge, IsMergeFault}
+use Rattle.ext_split.specs.Merge.{IsMerge, IsMergeFault}
 use Rattle.ext_split.specs.declared.link.decode.Error.{Error}
 use Rattle.ext_split.specs.Link.{BitmapPair, LinkFault, Corrupt, LinkValue, link_fault}
 use Rattle.entry_list.specs.Record.{IdsAreOf}

@@ -7,3 +7,4 @@ pub mod StateChanges
 pub mod StateEdits
 pub mod StateSearches
 pub mod StateTrees
+pub mod Outlines

@@ -1,7 +1,7 @@
 -- Entries whose files may have changed within the second in which the index was written (Git's documentation,
 -- racy-git).
 use Rattle.std.specs.Prelude.{◌≡◌, ◌≢◌, ◌⊎◌, ℕ, pos, int_lt, Bool, false, not, ◌&&◌, ◌==◌, if◌then◌else◌}
-use Rattle.base_objects.specs.Mode.{commit_mode}
+use Rattle.index_parts.specs.Mode.{commit_mode}
 use Rattle.entry_fields.specs.Stat.{seconds_of}
 use Rattle.entry_fields.specs.declared.entry.stat.FileTime.{FileTime}
 use Rattle.entry_fields.specs.declared.entry.stat.Stat.{Stat}

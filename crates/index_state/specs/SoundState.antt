@@ -12,7 +12,7 @@ use Rattle.ext_tree.specs.declared.verify.Error.{Error as TreeError}
 use Rattle.entry_list.specs.Order.{IsStrictlyOrdered}
 use Rattle.entry_list.specs.Record.{Record}
 use Rattle.entry_list.specs.Sorted.{IsFirstFall}
-use Rattle.base_objects.specs.Object.{Found}
+use Rattle.index_parts.specs.Object.{Found}
 use Rattle.index_parts.specs.declared.hash.ObjectId.{ObjectId}
 use Rattle.index_state.specs.State.{contents, entries_of}
 use Rattle.index_state.specs.declared.State.{State}

@@ -4,7 +4,7 @@ use Rattle.std.specs.Prelude.{◌≡◌, ℕ, ◌<◌, ◌^◌, [], Option, Some
 use Rattle.index_parts.specs.Id.{id_kind}
 use Rattle.index_parts.specs.declared.hash.ObjectId.{ObjectId}
 use Rattle.entry_fields.specs.declared.entry.stat.FileTime.{FileTime}
-use Rattle.base_objects.specs.Object.{Found}
+use Rattle.index_parts.specs.Object.{Found}
 use Rattle.ext_tree.specs.Tree.{node_of}
 use Rattle.ext_tree.specs.declared.Tree.{Tree}
 use Rattle.entry_list.specs.Order.{IsStrictlyOrdered}

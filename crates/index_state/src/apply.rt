@@ -3,9 +3,9 @@
 ghost use Rattle.index_state.specs.StateChanges.{Applies};
 
 use crate::State;
-use base_objects::check::ComponentCheck;
 use entry_edit::change::{ApplyError, Change};
 use index_edit::parts;
+use index_parts::check::ComponentCheck;
 
 impl State {
     /// Applies changes one after another, all or none, as `git update-index --index-info` does. A staged entry replaces

@@ -3,11 +3,11 @@
 ghost use Rattle.index_state.specs.StateChanges.{Resolves, Stages, Unstages};
 
 use crate::State;
-use base_objects::check::ComponentCheck;
 use entry_edit::error::Error;
 use entry_edit::stage::Displaced;
 use entry_list::Pathless;
 use index_edit::parts;
+use index_parts::check::ComponentCheck;
 
 impl State {
     /// Stages an entry at a path, as `git update-index --add --replace` does, and returns the entries that it replaced.

@@ -4,9 +4,9 @@ ghost use Rattle.ext_split.specs.Link.{link_of};
 ghost use Rattle.index_state.specs.Dissolve.{Dissolves};
 
 use crate::State;
-use ext_merge::merge;
 use ext_split::link::decode::Error;
 use ext_split::link::{Link, SplitIndex};
+use ext_split::merge;
 
 /// Merges the shared index into the split one by the bitmaps of the link.
 fn merge_shared(link: &Link, split: &mut State, shared: State) -> Result<(), Error>

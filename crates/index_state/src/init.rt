@@ -7,13 +7,13 @@ ghost use Rattle.index_state.specs.State.{PathsInStorage, contents, storage_of};
 ghost use Rattle.index_state.specs.StateTrees.{IsOfTree, ReadTreeCause};
 
 use crate::State;
-use base_objects::check::ComponentCheck;
-use base_objects::object::Find;
 use entry_fields::entry::FileTime;
 use entry_list::Version;
 use index_model::Parts;
 use index_model::extension::Outcome;
+use index_parts::check::ComponentCheck;
 use index_parts::hash::{Kind, ObjectId};
+use index_parts::object::Find;
 use std::alloc::Global;
 use tree_decode::from_tree::{Error, leaves_of};
 

@@ -18,6 +18,7 @@ mod debug;
 mod decode;
 mod dissolve;
 mod init;
+pub mod outline;
 mod trees;
 pub mod verify;
 mod write;

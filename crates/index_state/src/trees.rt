@@ -13,8 +13,8 @@ ghost use Rattle.index_state.specs.StateTrees.{StoresFirst, StoresTrees};
 
 use crate::State;
 use crate::verify::tree_ids;
-use base_objects::check::ComponentCheck;
 use ext_tree::Tree;
+use index_parts::check::ComponentCheck;
 use std::alloc::Global;
 use tree_encode::kept::keep_counts;
 use tree_encode::tree_ids::verify_tree_ids;

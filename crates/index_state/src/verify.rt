@@ -11,10 +11,10 @@ ghost use Rattle.index_state.specs.SoundState.{OrderCause};
 ghost use Rattle.index_state.specs.SoundState.{HasSoundTree, JudgesTree, TreeCheckCause};
 
 use crate::State;
-use base_objects::object::Find;
 use bstr::BString;
 use entry_list::slice::EntrySlice;
 use ext_tree as tree;
+use index_parts::object::Find;
 use std::alloc::{AllocError, Global};
 
 /// Returns the error that names the entry at an index and the one before it.

@@ -1,6 +1,6 @@
 //! Tests of locking, writing and reading in a directory in memory. Each step fails in turn.
 
-use file_memory::{Fault, Kept, Shelf, Steps};
+use file_place::{Fault, Kept, Shelf, Steps};
 use gix_index::entry::{FileTime, Flags, Mode, Stat};
 use gix_index::file::lock::{Durable, IfMissing};
 use gix_index::file::{ReadOptions, init, lock, write};

@@ -1,6 +1,6 @@
 //! Tests of the JSON lines of an index, which have one object for each part.
 
-use ext_marks::Marks;
+use ext_small::marks::Marks;
 use gix_index::State;
 use gix_index::entry::{FileTime, Flags, Mode, Stage, Stat};
 use gix_index::hash::io::Plain;

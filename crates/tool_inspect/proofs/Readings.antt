@@ -12,8 +12,8 @@ use Rattle.gix_index.specs.FileTime.{FileTime}
 use Rattle.gix_index.specs.Disk.World.{Known, World}
 use Rattle.gix_index.specs.Kind.{Kind}
 use Rattle.gix_index.specs.ObjectId.{ObjectId}
-use Rattle.ext_marks.specs.Marks.{AreMarks}
-use Rattle.ext_marks.specs.declared.Marks.{Marks}
+use Rattle.ext_small.specs.Marks.{AreMarks}
+use Rattle.ext_small.specs.declared.marks.Marks.{Marks}
 use Rattle.tool_errors.specs.Options.{unlimited_options, IsBeginOf1970}
 use Rattle.tool_inspect.specs.Showing.{IsInBytes, FileAloneCause}
 

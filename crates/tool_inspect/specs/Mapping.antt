@@ -11,7 +11,7 @@ use Rattle.view_layout.specs.Lines.{map_lines}
 use Rattle.view_salvage.specs.Remains.{last_begin}
 use Rattle.base_text.specs.declared.lines.Lines.{Lines}
 use Rattle.view_layout.specs.declared.part.Part.{Part}
-use Rattle.view_picture.specs.Picture.{picture_text}
+use Rattle.view_layout.specs.Picture.{picture_text}
 use Rattle.gix_index.specs.OnDisk.FolderTrait.{Ghosts as Folder}
 use Rattle.tool_errors.specs.declared.failure.Failure.{Failure}
 use Rattle.tool_errors.specs.Nuls.{AreShown, IsOfNul}

@@ -17,9 +17,9 @@ use Rattle.gix_index.specs.FileFaults.ReadError.TheVariants as reads
 use Rattle.std.specs.declared.io.Error.{Error as IoError}
 use Rattle.base_text.specs.Blocks.{PutsText}
 use Rattle.view_json.specs.Json.{json_text}
-use Rattle.ext_marks.specs.Marks.{AreMarks}
+use Rattle.ext_small.specs.Marks.{AreMarks}
 use Rattle.view_show.specs.Show.{show_lines}
-use Rattle.ext_marks.specs.declared.Marks.{Marks}
+use Rattle.ext_small.specs.declared.marks.Marks.{Marks}
 use Rattle.gix_index.specs.OnDisk.FolderTrait.{Ghosts as Folder}
 use Rattle.tool_errors.specs.declared.failure.Failure.{Failure}
 use Rattle.tool_errors.specs.Options.{unlimited_options, IsBeginOf1970}

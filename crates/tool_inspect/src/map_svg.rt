@@ -8,7 +8,7 @@ use gix_index::hash::Kind;
 use gix_index::hash::io::Out;
 use std::alloc::Global;
 use tool_errors::failure::Failure;
-use view_picture::write_svg;
+use view_layout::write_svg;
 
 /// Writes a picture of the parts of a file, which may be damaged, to `out`.
 ///

@@ -2,7 +2,7 @@
 
 ghost use Rattle.tool_inspect.specs.Showing.{PutsShown, ReadsAlone, ShowsFile};
 
-use ext_marks::{Marks, marks_of};
+use ext_small::marks::{Marks, marks_of};
 use gix_index::entry::FileTime;
 use gix_index::file::folder::Folder;
 use gix_index::file::{ReadOptions, Unfollowed};

@@ -5,13 +5,13 @@ use Rattle.std.specs.Prelude.{◌≢◌}
 use Rattle.std.proofs.lemmas.List.Elements.{All-nil, All-cons, All-append, All-head, All-tail}
 use Rattle.index_parts.proofs.Ids.{id_bytes-make_id, id_kind-make_id}
 use Rattle.index_parts.specs.Id.{id_bytes, id_kind, id_len}
-use Rattle.base_objects.specs.Mode.{mode_of_kind}
-use Rattle.base_objects.specs.Object.{Found}
-use Rattle.base_objects.specs.TreeObject.{TreeEntry, IsTreeEntry, AreTreeEntries, kind_of_mode}
+use Rattle.index_parts.specs.Mode.{mode_of_kind}
+use Rattle.index_parts.specs.Object.{Found}
+use Rattle.index_parts.specs.TreeObject.{TreeEntry, IsTreeEntry, AreTreeEntries, kind_of_mode}
 use Rattle.index_parts.specs.declared.hash.Kind.{Kind}
 use Rattle.index_parts.specs.declared.hash.ObjectId.{ObjectId}
-use Rattle.base_objects.specs.declared.object.tree.EntryKind.{EntryKind}
-use Rattle.base_objects.specs.declared.object.tree.EntryKind.TheVariants as kinds
+use Rattle.index_parts.specs.declared.object.tree.EntryKind.{EntryKind}
+use Rattle.index_parts.specs.declared.object.tree.EntryKind.TheVariants as kinds
 use Rattle.entry_list.specs.Record.{Record, IsSized}
 use Rattle.tree_decode.specs.Leaves.{AreLeaves, LeavesAnswer, Part, Yields, with_leaves, leaf_of, some_entries}
 use Rattle.tree_decode.specs.Leaves.{whole_tree, limit, unread, opened, ended, refused, leaf, below, stopped}

@@ -6,11 +6,11 @@ use Rattle.std.specs.declared.cmp.Ordering.TheVariants.{Less}
 use Rattle.std.proofs.lemmas.List.{append-nil, append_assoc}
 use Rattle.std.proofs.lemmas.List.Elements.{All-nil, All-cons, All-append, All-tail}
 use Rattle.index_parts.specs.Id.{id_kind}
-use Rattle.base_objects.specs.Object.{Found}
-use Rattle.base_objects.specs.TreeObject.{TreeEntry, is_tree_mode, kind_of_mode, type_bits}
+use Rattle.index_parts.specs.Object.{Found}
+use Rattle.index_parts.specs.TreeObject.{TreeEntry, is_tree_mode, kind_of_mode, type_bits}
 use Rattle.index_parts.specs.declared.hash.Kind.{Kind}
 use Rattle.index_parts.specs.declared.hash.ObjectId.{ObjectId}
-use Rattle.base_objects.specs.declared.object.tree.EntryKind.TheVariants as kinds
+use Rattle.index_parts.specs.declared.object.tree.EntryKind.TheVariants as kinds
 use Rattle.entry_list.specs.Order.{path_cmp, IsStrictlyOrdered}
 use Rattle.entry_list.specs.Record.{Record}
 use Rattle.entry_list.specs.TreeOrder.{sorted_name, IsGitOrdered, IsReachable, AreGitOrdered, itself, listed}

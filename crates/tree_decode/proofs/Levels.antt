@@ -2,10 +2,10 @@
 use Rattle.std.proofs.Common.{◌≡◌, ℕ, suc, ◌≤◌, List, [], ◌∷◌, ◌++◌, length, Bool, Option, Ok, Err, take, refl, sym, ap}
 use Rattle.std.proofs.Common.{subst, ◌∙◌, arith}
 use Rattle.std.proofs.lemmas.List.{take-take, take-append-le, length-take-le, length-append}
-use Rattle.base_objects.specs.Object.{Found, object}
+use Rattle.index_parts.specs.Object.{Found, object}
 use Rattle.index_parts.specs.declared.hash.Kind.{Kind}
 use Rattle.index_parts.specs.declared.hash.ObjectId.{ObjectId}
-use Rattle.base_objects.specs.declared.object.Kind.TheVariants.{Tree}
+use Rattle.index_parts.specs.declared.object.Kind.TheVariants.{Tree}
 use Rattle.entry_list.specs.Record.{Record}
 use Rattle.tree_decode.specs.Leaves.{LeavesAnswer, LeavesFault, Yields, with_leaves, whole_tree, opened}
 use Rattle.tree_decode.specs.LeafSteps.{EntriesComeTo, LevelsComeTo, IsReadLevel, Rise, unlisted}

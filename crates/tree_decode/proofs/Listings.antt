@@ -3,15 +3,15 @@ use Rattle.std.proofs.Common.{◌≡◌, ℕ, List, [], ◌∷◌, ◌++◌, len
 use Rattle.std.proofs.Common.{subst, ◌∙◌, append_assoc}
 use Rattle.std.specs.Prelude.{◌≢◌}
 use Rattle.std.proofs.lemmas.List.{append-nil}
-use Rattle.base_objects.proofs.TreeLists.{last_bytes, object_behind}
-use Rattle.base_objects.specs.Object.{Found}
-use Rattle.base_objects.specs.TreeObject.{TreeEntry, IsTreeEntry, kind_of_mode}
+use Rattle.index_parts.proofs.TreeLists.{last_bytes, object_behind}
+use Rattle.index_parts.specs.Object.{Found}
+use Rattle.index_parts.specs.TreeObject.{TreeEntry, IsTreeEntry, kind_of_mode}
 use Rattle.index_parts.specs.declared.hash.Kind.{Kind}
 use Rattle.index_parts.specs.declared.hash.ObjectId.{ObjectId}
-use Rattle.base_objects.specs.declared.object.tree.EntryKind.{EntryKind}
-use Rattle.base_objects.specs.declared.object.tree.EntryKind.TheVariants as kinds
+use Rattle.index_parts.specs.declared.object.tree.EntryKind.{EntryKind}
+use Rattle.index_parts.specs.declared.object.tree.EntryKind.TheVariants as kinds
 use Rattle.entry_list.specs.Record.{Record}
-use Rattle.base_objects.specs.NameCheck.{refusal_as}
+use Rattle.index_parts.specs.NameCheck.{refusal_as}
 use Rattle.tree_decode.specs.Leaves.{LeavesAnswer, LeavesFault, InvalidComponent, LeavesCause, Yields, with_leaves}
 use Rattle.tree_decode.specs.Leaves.{leaf_of, leaf_rejection, whole_tree, ended, refused, leaf, below, stopped}
 use Rattle.tree_decode.specs.LeafSteps.{EntriesComeTo, IsRefusedName, IsSomeTree, ListsAll, ListsFault, ListsUpTo}

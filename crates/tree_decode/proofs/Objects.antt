@@ -1,9 +1,9 @@
 -- What a store's result implies.
 use Rattle.std.proofs.Common.{◌≡◌, ℕ, List, Option, Some, None, Ok, Err, subst}
-use Rattle.base_objects.specs.Object.{Found, IsFindResult, absent, object, fault}
-use Rattle.base_objects.specs.declared.object.Kind.{Kind}
-use Rattle.base_objects.specs.declared.object.find.Error.{Error}
-use Rattle.base_objects.specs.declared.object.find.Error.TheVariants as errors
+use Rattle.index_parts.specs.Object.{Found, IsFindResult, absent, object, fault}
+use Rattle.index_parts.specs.declared.object.Kind.{Kind}
+use Rattle.index_parts.specs.declared.object.find.Error.{Error}
+use Rattle.index_parts.specs.declared.object.find.Error.TheVariants as errors
 
 module _ (found : Found) (bytes : List ℕ) where
   pub found_none : (answer : Option Kind) → answer ≡ None → IsFindResult found (Ok answer) bytes → found ≡ absent

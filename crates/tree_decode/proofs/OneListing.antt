@@ -4,17 +4,17 @@ use Rattle.std.proofs.Common.{refl, sym, ap, subst, ◌∙◌, arith}
 use Rattle.std.specs.Prelude.{◌⊎◌, Result, Ok, Err}
 use Rattle.std.proofs.lemmas.Option.{same_Some}
 use Rattle.index_parts.specs.Id.{id_kind}
-use Rattle.base_objects.specs.Object.{Found, absent, object, fault}
-use Rattle.base_objects.specs.TreeObject.{TreeEntry, IsTreeObject, IsMalformedTree, AreTreeEntries, NoTreeEntry}
-use Rattle.base_objects.specs.TreeObject.{kind_of_mode}
+use Rattle.index_parts.specs.Object.{Found, absent, object, fault}
+use Rattle.index_parts.specs.TreeObject.{TreeEntry, IsTreeObject, IsMalformedTree, AreTreeEntries, NoTreeEntry}
+use Rattle.index_parts.specs.TreeObject.{kind_of_mode}
 use Rattle.index_parts.specs.declared.hash.Kind.{Kind}
 use Rattle.index_parts.specs.declared.hash.ObjectId.{ObjectId}
-use Rattle.base_objects.specs.declared.object.Kind.{Kind as ObjectKind}
-use Rattle.base_objects.specs.declared.object.Kind.TheVariants as objects
-use Rattle.base_objects.specs.declared.object.tree.EntryKind.{EntryKind}
-use Rattle.base_objects.specs.declared.object.tree.EntryKind.TheVariants as kinds
-use Rattle.base_objects.proofs.TreeLists.{listed_in, lists_some}
-use Rattle.base_objects.proofs.TreeObjects.{malformed_behind, one_tree}
+use Rattle.index_parts.specs.declared.object.Kind.{Kind as ObjectKind}
+use Rattle.index_parts.specs.declared.object.Kind.TheVariants as objects
+use Rattle.index_parts.specs.declared.object.tree.EntryKind.{EntryKind}
+use Rattle.index_parts.specs.declared.object.tree.EntryKind.TheVariants as kinds
+use Rattle.index_parts.proofs.TreeLists.{listed_in, lists_some}
+use Rattle.index_parts.proofs.TreeObjects.{malformed_behind, one_tree}
 use Rattle.entry_list.specs.Record.{Record}
 use Rattle.tree_decode.specs.Leaves.{LeavesAnswer, LeavesFault, TooManyObjects, NotFound, NotATree, Find, Malformed}
 use Rattle.tree_decode.specs.Leaves.{InvalidComponent, Part, whole_tree, some_entries, IsUnreadTree, missing, failed}

@@ -3,10 +3,10 @@ use Rattle.std.proofs.Common.{◌≡◌, ℕ, suc, List, [], ◌∷◌, ◌++◌
 use Rattle.std.proofs.Common.{◌∙◌, arith}
 use Rattle.std.proofs.lemmas.List.{take_all}
 use Rattle.index_parts.specs.Id.{id_kind}
-use Rattle.base_objects.specs.Object.{Found, object}
+use Rattle.index_parts.specs.Object.{Found, object}
 use Rattle.index_parts.specs.declared.hash.Kind.{Kind}
 use Rattle.index_parts.specs.declared.hash.ObjectId.{ObjectId}
-use Rattle.base_objects.specs.declared.object.Kind.TheVariants.{Tree}
+use Rattle.index_parts.specs.declared.object.Kind.TheVariants.{Tree}
 use Rattle.entry_list.specs.Record.{Record}
 use Rattle.tree_decode.specs.Leaves.{AreLeaves, IsUnreadTree, LeavesAnswer, LeavesFault, TooManyObjects, Yields}
 use Rattle.tree_decode.specs.Leaves.{with_leaves, limit, unread, whole_tree}

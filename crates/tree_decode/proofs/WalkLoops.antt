@@ -1,6 +1,6 @@
 -- What the loops of a walk over trees have done so far.
 use Rattle.std.specs.Prelude.{◌≡◌, ℕ, List, [], ◌++◌, Bool, Option, Ok}
-use Rattle.base_objects.specs.Object.{Found}
+use Rattle.index_parts.specs.Object.{Found}
 use Rattle.index_parts.specs.declared.hash.Kind.{Kind}
 use Rattle.index_parts.specs.declared.hash.ObjectId.{ObjectId}
 use Rattle.tree_decode.specs.Leaves.{LeavesAnswer, Yields, with_leaves, whole_tree}

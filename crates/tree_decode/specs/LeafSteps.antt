@@ -1,14 +1,14 @@
 -- The effects of the steps of a traversal of trees ("Pro Git", "Git Objects"). Public clauses cite none of these.
 use Rattle.std.specs.Prelude.{◌≡◌, ℕ, ◌≤◌, List, [], ◌∷◌, ◌++◌, Bool, Option, Some, None, Ok, Err, flat_map, take, drop}
 use Rattle.std.specs.Prelude.{length}
-use Rattle.base_objects.specs.Mode.{mode_of_kind}
-use Rattle.base_objects.specs.Object.{Found}
-use Rattle.base_objects.specs.TreeObject.{TreeEntry, IsTreeObject}
+use Rattle.index_parts.specs.Mode.{mode_of_kind}
+use Rattle.index_parts.specs.Object.{Found}
+use Rattle.index_parts.specs.TreeObject.{TreeEntry, IsTreeObject}
 use Rattle.index_parts.specs.declared.hash.Kind.{Kind}
 use Rattle.index_parts.specs.declared.hash.ObjectId.{ObjectId}
-use Rattle.base_objects.specs.declared.object.tree.EntryKind.{EntryKind}
+use Rattle.index_parts.specs.declared.object.tree.EntryKind.{EntryKind}
 use Rattle.entry_list.specs.Record.{Record}
-use Rattle.base_objects.specs.NameCheck.{refusal_as}
+use Rattle.index_parts.specs.NameCheck.{refusal_as}
 use Rattle.tree_decode.specs.Leaves.{LeavesAnswer, LeavesFault, InvalidComponent, Yields, zero_stat, with_leaves}
 use Rattle.tree_decode.specs.Leaves.{some_entries, whole_tree}
 use Rattle.tree_decode.specs.declared.walk.Level.{Level}

@@ -3,16 +3,16 @@
 use Rattle.std.specs.Prelude.{◌≡◌, ◌≢◌, ℕ, suc, List, [], ◌∷◌, ◌++◌, Bool, Option, Some, None, Result, Ok, Err}
 use Rattle.bstr.specs.Owned.{bstring_bytes}
 use Rattle.index_parts.specs.Id.{id_kind}
-use Rattle.base_objects.specs.Mode.{mode_of_kind}
-use Rattle.base_objects.specs.NameCheck.{refusal_as}
-use Rattle.base_objects.specs.Object.{Found, absent, object, fault}
-use Rattle.base_objects.specs.TreeObject.{TreeEntry, IsTreeObject, IsMalformedTree, kind_of_mode}
+use Rattle.index_parts.specs.Mode.{mode_of_kind}
+use Rattle.index_parts.specs.NameCheck.{refusal_as}
+use Rattle.index_parts.specs.Object.{Found, absent, object, fault}
+use Rattle.index_parts.specs.TreeObject.{TreeEntry, IsTreeObject, IsMalformedTree, kind_of_mode}
 use Rattle.entry_fields.specs.declared.entry.stat.Stat.{Stat}
 use Rattle.index_parts.specs.declared.hash.Kind.{Kind}
 use Rattle.index_parts.specs.declared.hash.ObjectId.{ObjectId}
-use Rattle.base_objects.specs.declared.object.Kind.{Kind as ObjectKind}
-use Rattle.base_objects.specs.declared.object.Kind.TheVariants as objects
-use Rattle.base_objects.specs.declared.object.tree.EntryKind.TheVariants as kinds
+use Rattle.index_parts.specs.declared.object.Kind.{Kind as ObjectKind}
+use Rattle.index_parts.specs.declared.object.Kind.TheVariants as objects
+use Rattle.index_parts.specs.declared.object.tree.EntryKind.TheVariants as kinds
 use Rattle.entry_list.specs.Record.{Record}
 use Rattle.tree_decode.specs.declared.error.Error.{Error}
 use Rattle.tree_decode.specs.declared.error.Error.TheVariants as errors

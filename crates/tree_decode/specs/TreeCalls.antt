@@ -3,8 +3,8 @@ use Rattle.std.specs.Prelude.{◌≡◌, ℕ, ◌++◌, [], ◌∷◌, List, Boo
 use Rattle.entry_list.specs.Held.{Held}
 use Rattle.entry_list.specs.Order.{IsStrictlyOrdered}
 use Rattle.entry_list.specs.TreeOrder.{AreGitOrdered}
-use Rattle.base_objects.specs.Object.{Found}
-use Rattle.base_objects.specs.declared.object.tree.EntryKind.{EntryKind}
+use Rattle.index_parts.specs.Object.{Found}
+use Rattle.index_parts.specs.declared.object.tree.EntryKind.{EntryKind}
 use Rattle.index_parts.specs.Id.{id_kind}
 use Rattle.index_parts.specs.declared.hash.Kind.{Kind}
 use Rattle.index_parts.specs.declared.hash.ObjectId.{ObjectId}

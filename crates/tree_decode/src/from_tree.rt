@@ -5,10 +5,10 @@ ghost use Rattle.tree_decode.specs.TreeCalls.{GivesLeaves};
 pub use crate::error::{Error, Traversal};
 use crate::read::read_tree;
 use crate::walk::Walk;
-use base_objects::check::ComponentCheck;
-use base_objects::object::Find;
 use entry_list::list::EntryList;
+use index_parts::check::ComponentCheck;
 use index_parts::hash::ObjectId;
+use index_parts::object::Find;
 use std::alloc::Global;
 
 /// Returns the leaves of a tree, and of the trees below it, in the order of the trees' entries ("Pro Git", "Git

@@ -1,17 +1,17 @@
 //! Reads complete trees from a store.
 
 ghost use Rattle.std.specs.Prelude.{◌≡◌, false, IsTrue, IfOk, IfErr};
-ghost use Rattle.base_objects.specs.Object.{object};
-ghost use Rattle.base_objects.specs.TreeObject.{IsMalformedTree};
-ghost use Rattle.base_objects.specs.declared.object.Kind.TheVariants.{Tree};
+ghost use Rattle.index_parts.specs.Object.{object};
+ghost use Rattle.index_parts.specs.TreeObject.{IsMalformedTree};
+ghost use Rattle.index_parts.specs.declared.object.Kind.TheVariants.{Tree};
 ghost use Rattle.tree_decode.specs.Leaves.{IsUnreadTree, LeavesCause};
 ghost use Rattle.tree_decode.specs.LeafSteps.{IsSomeTree};
 
 use crate::error::{Error, Traversal};
-use base_objects::object;
-use base_objects::object::tree::Entries;
-use base_objects::object::{Find, find};
 use index_parts::hash::{Kind, ObjectId};
+use index_parts::object;
+use index_parts::object::tree::Entries;
+use index_parts::object::{Find, find};
 use std::alloc::Global;
 
 /// Returns whether bytes are the entries of a tree, and nothing else.

@@ -1,20 +1,20 @@
 //! Traverses trees, from one that is read to the next.
 
 ghost use Rattle.std.specs.Prelude.{◌≡◌, ◌≤◌, ◌++◌, [], None, IfOk, IfErr, OnOk, length, take};
-ghost use Rattle.base_objects.specs.NameCheck.{refusal_as};
+ghost use Rattle.index_parts.specs.NameCheck.{refusal_as};
 ghost use Rattle.tree_decode.specs.declared.error.Error.TheVariants.{Memory};
 ghost use Rattle.tree_decode.specs.LeafSteps.{BeginsTree, EndsOrReaches, IsPacked, IsSomeTree, IsSoundWalk};
 ghost use Rattle.tree_decode.specs.LeafSteps.{ListsOn, listed_records, unlisted};
 ghost use Rattle.tree_decode.specs.TreeCalls.{KeepsPrefix, PushesLeaf, TreeCause, RejectedNameCause, WalkCause};
 
 use crate::error::Error;
-use base_objects::check::{ComponentCheck, refusal_of};
-use base_objects::object::tree::{Entries, EntryKind};
 use bstr::BString;
 use entry_fields::entry::{Flags, Mode, Stage, Stat};
 use entry_list::Pathless;
 use entry_list::list::EntryList;
+use index_parts::check::{ComponentCheck, refusal_of};
 use index_parts::hash::{Kind, ObjectId};
+use index_parts::object::tree::{Entries, EntryKind};
 use std::alloc::{AllocError, Global};
 
 /// A tree with entries that are still to be listed.

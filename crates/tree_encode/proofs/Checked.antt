@@ -19,11 +19,11 @@ use Rattle.index_parts.specs.Id.{id_bytes, id_kind, is_null}
 use Rattle.index_parts.specs.declared.hash.Kind.{Kind}
 use Rattle.index_parts.specs.declared.hash.ObjectId.{ObjectId}
 use Rattle.entry_fields.specs.Flags.{stage_number}
-use Rattle.base_objects.specs.Mode.{mode_of_kind, named_kind}
-use Rattle.base_objects.specs.TreeObject.{kind_of_mode}
-use Rattle.base_objects.specs.declared.object.tree.EntryKind.{EntryKind}
-use Rattle.base_objects.specs.declared.object.tree.EntryKind.TheVariants as kinds
-use Rattle.base_objects.specs.declared.object.tree.EntryMode.{EntryMode}
+use Rattle.index_parts.specs.Mode.{mode_of_kind, named_kind}
+use Rattle.index_parts.specs.TreeObject.{kind_of_mode}
+use Rattle.index_parts.specs.declared.object.tree.EntryKind.{EntryKind}
+use Rattle.index_parts.specs.declared.object.tree.EntryKind.TheVariants as kinds
+use Rattle.index_parts.specs.declared.object.tree.EntryMode.{EntryMode}
 use Rattle.entry_list.specs.EntryImage.{is_removed}
 use Rattle.entry_list.specs.Order.{IsStrictlyOrdered, path_cmp, record_cmp, record_stage}
 use Rattle.entry_list.specs.Record.{Record}

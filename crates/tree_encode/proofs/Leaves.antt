@@ -1,7 +1,7 @@
 -- Leaves at places of lists.
 use Rattle.std.proofs.Common.{[]}
 use Rattle.index_parts.specs.declared.hash.ObjectId.TheVariants as ids
-use Rattle.base_objects.specs.declared.object.tree.EntryKind.TheVariants as kinds
+use Rattle.index_parts.specs.declared.object.tree.EntryKind.TheVariants as kinds
 use Rattle.std.proofs.Common.{false}
 use Rattle.tree_encode.specs.declared.leaf.Leaf.{Leaf}
 

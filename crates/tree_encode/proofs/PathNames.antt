@@ -10,11 +10,11 @@ use Rattle.std.proofs.lemmas.Bool.{eqb-false, eqb-true}
 use Rattle.std.proofs.lemmas.Cmp.{nat_list_cmp_total, tied_itself}
 use Rattle.std.proofs.lemmas.List.{append-nil, length-append, nil_from_length}
 use Rattle.std.proofs.lemmas.List.Elements.{All-head, All-tail}
-use Rattle.base_objects.specs.declared.object.tree.EntryKind.{EntryKind}
-use Rattle.base_objects.specs.declared.object.tree.EntryKind.TheVariants as kinds
+use Rattle.index_parts.specs.declared.object.tree.EntryKind.{EntryKind}
+use Rattle.index_parts.specs.declared.object.tree.EntryKind.TheVariants as kinds
 use Rattle.entry_list.specs.Order.{path_cmp}
 use Rattle.std.proofs.lemmas.Map.Lookups.{exact_bytes}
-use Rattle.base_objects.specs.NameCheck.{refusal_as}
+use Rattle.index_parts.specs.NameCheck.{refusal_as}
 use Rattle.tree_encode.specs.Directory.{IsPathComponent, key}
 use Rattle.tree_encode.specs.Refusals.{HasPathPrefix, NameCheck, IsBadName, IsMisnamed, IsTreePath, of_file}
 use Rattle.tree_encode.specs.Refusals.{of_directory, beneath, some_name, deep, later_name}

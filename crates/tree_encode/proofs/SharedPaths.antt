@@ -9,9 +9,9 @@ use Rattle.std.proofs.lemmas.List.{length-append, length-drop, map-append, take-
 use Rattle.std.proofs.lemmas.List.Sums.{sum_by-cons}
 use Rattle.std.proofs.lemmas.List.Elements.{All-cons, All-contains, All-head, All-nil, All-tail}
 use Rattle.std.proofs.lemmas.List.Elements.{Contains-push}
-use Rattle.base_objects.specs.NameCheck.{refusal_as}
-use Rattle.base_objects.specs.declared.object.tree.EntryKind.{EntryKind}
-use Rattle.base_objects.specs.declared.object.tree.EntryKind.TheVariants as kinds
+use Rattle.index_parts.specs.NameCheck.{refusal_as}
+use Rattle.index_parts.specs.declared.object.tree.EntryKind.{EntryKind}
+use Rattle.index_parts.specs.declared.object.tree.EntryKind.TheVariants as kinds
 use Rattle.index_parts.specs.declared.hash.Kind.{Kind}
 use Rattle.entry_list.specs.Record.{Record}
 use Rattle.tree_encode.specs.ApartSteps.{EndsWith}

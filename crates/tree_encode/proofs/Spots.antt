@@ -13,7 +13,7 @@ use Rattle.std.proofs.Math.Seq.{take-append_seam}
 use Rattle.bstr.specs.Owned.{bstring_bytes}
 use Rattle.index_parts.specs.declared.hash.Kind.{Kind}
 use Rattle.index_parts.specs.declared.hash.ObjectId.{ObjectId}
-use Rattle.base_objects.specs.declared.object.tree.EntryKind.TheVariants as kinds
+use Rattle.index_parts.specs.declared.object.tree.EntryKind.TheVariants as kinds
 use Rattle.ext_tree.specs.Tree.{Node, Nodes, node, none, node_name, node_of, nodes_from}
 use Rattle.ext_tree.specs.declared.Tree.{Tree}
 use Rattle.ext_tree.specs.declared.Tree.TheViews.{out-Tree}

@@ -2,12 +2,12 @@
 use Rattle.std.specs.Prelude.{◌≡◌, ◌≢◌, ℕ, List, [], ◌∷◌, ◌++◌, All, length, Bool, Option, Some, None, if◌then◌else◌}
 use Rattle.std.specs.List.{list_any}
 use Rattle.index_parts.specs.Id.{id_kind, id_bytes, id_len}
-use Rattle.base_objects.specs.Mode.{mode_of_kind}
-use Rattle.base_objects.specs.TreeObject.{TreeEntry}
+use Rattle.index_parts.specs.Mode.{mode_of_kind}
+use Rattle.index_parts.specs.TreeObject.{TreeEntry}
 use Rattle.index_parts.specs.declared.hash.Kind.{Kind}
 use Rattle.index_parts.specs.declared.hash.ObjectId.{ObjectId}
-use Rattle.base_objects.specs.declared.object.tree.EntryKind.{EntryKind}
-use Rattle.base_objects.specs.declared.object.tree.EntryKind.TheVariants as kinds
+use Rattle.index_parts.specs.declared.object.tree.EntryKind.{EntryKind}
+use Rattle.index_parts.specs.declared.object.tree.EntryKind.TheVariants as kinds
 use Rattle.entry_list.specs.TreeOrder.{IsGitOrdered}
 use Rattle.tree_encode.specs.Objects.{Taken, tree_entry_bytes, tree_id, with_objects}
 use Rattle.tree_encode.specs.Staged.{Staged}

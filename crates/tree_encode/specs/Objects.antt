@@ -4,8 +4,8 @@ use Rattle.index_parts.specs.Digest.{digest}
 use Rattle.index_parts.specs.Id.{id_bytes, make_id}
 use Rattle.index_parts.specs.declared.hash.Kind.{Kind}
 use Rattle.index_parts.specs.declared.hash.ObjectId.{ObjectId}
-use Rattle.base_objects.specs.declared.object.tree.EntryKind.{EntryKind}
-use Rattle.base_objects.specs.declared.object.tree.EntryKind.TheVariants as kinds
+use Rattle.index_parts.specs.declared.object.tree.EntryKind.{EntryKind}
+use Rattle.index_parts.specs.declared.object.tree.EntryKind.TheVariants as kinds
 
 -- The mode in octal digits, without leading zeros.
 abbrev pub tree_mode_text : EntryKind → List ℕ

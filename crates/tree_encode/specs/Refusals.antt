@@ -4,14 +4,14 @@ use Rattle.std.specs.Prelude.{false, Option, Some, None}
 use Rattle.bstr.specs.Owned.{bstring_bytes}
 use Rattle.index_parts.specs.Id.{id_bytes, id_kind, id_len, is_null}
 use Rattle.entry_fields.specs.Flags.{stage_number}
-use Rattle.base_objects.specs.Mode.{named_kind}
+use Rattle.index_parts.specs.Mode.{named_kind}
 use Rattle.index_parts.specs.declared.hash.Kind.{Kind}
 use Rattle.index_parts.specs.declared.hash.ObjectId.{ObjectId}
-use Rattle.base_objects.specs.declared.object.tree.EntryKind.{EntryKind}
-use Rattle.base_objects.specs.declared.object.tree.EntryKind.TheVariants as kinds
+use Rattle.index_parts.specs.declared.object.tree.EntryKind.{EntryKind}
+use Rattle.index_parts.specs.declared.object.tree.EntryKind.TheVariants as kinds
 use Rattle.entry_list.specs.EntryImage.{is_removed}
 use Rattle.entry_list.specs.Record.{Record}
-use Rattle.base_objects.specs.NameCheck.{refusal_as}
+use Rattle.index_parts.specs.NameCheck.{refusal_as}
 use Rattle.tree_encode.specs.Directory.{IsPathComponent}
 use Rattle.tree_encode.specs.Staged.{Staged, staged_in}
 use Rattle.tree_encode.specs.declared.error.Error.{Error}

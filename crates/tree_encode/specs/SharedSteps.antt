@@ -1,6 +1,6 @@
 -- The path of an entry before another. Public clauses cite none of these.
 use Rattle.std.specs.Prelude.{◌≡◌, ◌⊎◌, ℕ, List, []}
-use Rattle.base_objects.specs.declared.object.tree.EntryKind.{EntryKind}
+use Rattle.index_parts.specs.declared.object.tree.EntryKind.{EntryKind}
 use Rattle.tree_encode.specs.Refusals.{NameCheck, IsTreePath}
 
 -- The path is valid, or there is none.

@@ -4,8 +4,8 @@ use Rattle.std.specs.List.{filter_map}
 use Rattle.std.specs.Option.{option_map}
 use Rattle.index_parts.specs.declared.hash.ObjectId.{ObjectId}
 use Rattle.entry_fields.specs.Flags.{stage_number}
-use Rattle.base_objects.specs.Mode.{named_kind}
-use Rattle.base_objects.specs.declared.object.tree.EntryKind.{EntryKind}
+use Rattle.index_parts.specs.Mode.{named_kind}
+use Rattle.index_parts.specs.declared.object.tree.EntryKind.{EntryKind}
 use Rattle.entry_list.specs.EntryImage.{is_removed}
 use Rattle.entry_list.specs.Record.{Record}
 use Rattle.tree_encode.specs.declared.leaf.Leaf.{Leaf}

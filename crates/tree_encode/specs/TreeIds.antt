@@ -7,7 +7,7 @@ use Rattle.std.specs.Option.{option_and_then, option_map}
 use Rattle.bstr.specs.Owned.{bstring_bytes}
 use Rattle.index_parts.specs.declared.hash.Kind.{Kind}
 use Rattle.index_parts.specs.declared.hash.ObjectId.{ObjectId}
-use Rattle.base_objects.specs.declared.object.tree.EntryKind.TheVariants as kinds
+use Rattle.index_parts.specs.declared.object.tree.EntryKind.TheVariants as kinds
 use Rattle.ext_tree.specs.Tree.{Node, Nodes, node, none, more, node_name}
 use Rattle.tree_encode.specs.Directory.{DirectoryItems, IsTreeOf, leaf_count, items_id}
 use Rattle.entry_list.specs.Record.{Record}

@@ -6,7 +6,7 @@ use Rattle.bstr.specs.Owned.{bstring_bytes}
 use Rattle.index_parts.specs.declared.hash.Kind.{Kind}
 use Rattle.index_parts.specs.declared.hash.ObjectId.{ObjectId}
 use Rattle.ext_tree.specs.Tree.{Node, Nodes, node, none, name_cmp, node_name, nodes_from}
-use Rattle.base_objects.specs.declared.object.tree.EntryKind.TheVariants as kinds
+use Rattle.index_parts.specs.declared.object.tree.EntryKind.TheVariants as kinds
 use Rattle.entry_list.specs.Record.{Record}
 use Rattle.tree_encode.specs.Cached.{IsCached}
 use Rattle.tree_encode.specs.Directory.{DirectoryItems, IsTreeOf}

@@ -13,9 +13,9 @@ use crate::apart::{beginnings_of, last_above};
 use crate::error::Error;
 use crate::leaf::{Leaf, is_removed, leaf_at};
 use crate::shared::fault_behind;
-use base_objects::check::ComponentCheck;
 use bstr::BString;
 use entry_list::slice::EntrySlice;
+use index_parts::check::ComponentCheck;
 use index_parts::hash::Kind;
 use std::alloc::Global;
 

@@ -3,16 +3,16 @@
 ghost use Rattle.std.specs.Prelude.{◌≡◌, ◌≢◌, ◌<◌, IsTrue, false, length};
 ghost use Rattle.std.specs.List.{HoldsAt};
 ghost use Rattle.std.specs.Option.{option_map};
-ghost use Rattle.base_objects.specs.declared.object.tree.EntryKind.TheVariants as kinds;
+ghost use Rattle.index_parts.specs.declared.object.tree.EntryKind.TheVariants as kinds;
 ghost use Rattle.entry_list.specs.EntryImage.{is_removed};
 ghost use Rattle.tree_encode.specs.Staged.{is_intended, staged_entry, staged_of};
 
-use base_objects::object::tree::EntryKind;
 use bitflags::Flags as _;
 use entry_fields::entry::Flags;
 use entry_list::Entry;
 use entry_list::slice::EntrySlice;
 use index_parts::hash::ObjectId;
+use index_parts::object::tree::EntryKind;
 
 /// What an index entry stages: a file, a link, a commit or, in a sparse index, a directory. The path of such a sparse
 /// directory has a slash at the end.

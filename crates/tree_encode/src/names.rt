@@ -2,15 +2,15 @@
 
 ghost use Rattle.std.specs.Prelude.{◌≡◌, ◌≢◌, ℕ, All, None, IfSome, drop};
 ghost use Rattle.std.specs.Option.{option_map};
-ghost use Rattle.base_objects.specs.NameCheck.{refusal_as};
+ghost use Rattle.index_parts.specs.NameCheck.{refusal_as};
 ghost use Rattle.tree_encode.specs.Directory.{IsPathComponent};
 ghost use Rattle.tree_encode.specs.Refusals.{IsBadName, IsMisnamed, IsTreePath};
 ghost use Rattle.tree_encode.specs.WritingSteps.{IsComponent, IsPathSplit};
 
 use crate::error::NameFault;
 use crate::leaf::is_tree;
-use base_objects::check::{ComponentCheck, refusal_of};
-use base_objects::object::tree::EntryKind;
+use index_parts::check::{ComponentCheck, refusal_of};
+use index_parts::object::tree::EntryKind;
 
 /// A component of a path.
 #[derive(Clone, Copy)]

@@ -3,8 +3,8 @@
 ghost use Rattle.std.specs.Prelude.{◌≡◌, ◌++◌, OnOk};
 ghost use Rattle.tree_encode.specs.Objects.{tree_mode_text, tree_entry_bytes, tree_id};
 
-use base_objects::object::tree::EntryKind;
 use index_parts::hash::{Hasher, Kind, ObjectId};
+use index_parts::object::tree::EntryKind;
 use itoa::Buffer;
 use std::alloc::AllocError;
 

@@ -7,9 +7,9 @@ ghost use Rattle.tree_encode.specs.SharedSteps.{IsCheckPassed};
 
 use crate::error::NameFault;
 use crate::names::fault_of;
-use base_objects::check::ComponentCheck;
-use base_objects::object::tree::EntryKind;
 use entry_list::paths::shared_len;
+use index_parts::check::ComponentCheck;
+use index_parts::object::tree::EntryKind;
 
 /// Returns the length in bytes of the directories that both paths go through. It includes the last slash, after which
 /// `path` has more bytes. It is 0 if there are no such directories.

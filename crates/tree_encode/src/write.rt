@@ -3,7 +3,7 @@
 ghost use Rattle.std.specs.Prelude.{◌≡◌, ◌⊎◌, ◌+◌, ◌<◌, ◌≤◌, ◌^◌, ◌++◌, ◌||◌, [], ◌∷◌, List, false, length};
 ghost use Rattle.std.specs.Prelude.{map, IfOk, IfErr, OnErr, OnOk, Some, slice_range};
 ghost use Rattle.std.specs.List.Sorted.{IsPermutation, IsSorted};
-ghost use Rattle.base_objects.specs.declared.object.tree.EntryKind.TheVariants as kinds;
+ghost use Rattle.index_parts.specs.declared.object.tree.EntryKind.TheVariants as kinds;
 ghost use Rattle.entry_list.specs.Order.{IsStrictlyOrdered};
 ghost use Rattle.ext_tree.specs.Tree.{Node, name_cmp, node_of};
 ghost use Rattle.ext_tree.specs.declared.Tree.TheViews.{out-Tree};
@@ -24,12 +24,12 @@ use crate::leaf::{Leaf, is_tree, leaf_at};
 use crate::names::{component_of, tail_of};
 use crate::object::{push_entry, tree_id};
 use crate::sink::Sink;
-use base_objects::check::ComponentCheck;
-use base_objects::object::tree::EntryKind;
 use entry_list::slice::EntrySlice;
 use ext_tree::Tree;
 use ext_tree::order::compare_names;
+use index_parts::check::ComponentCheck;
 use index_parts::hash::{Kind, ObjectId};
+use index_parts::object::tree::EntryKind;
 use smallvec::SmallVec;
 use std::alloc::{AllocError, Global};
 

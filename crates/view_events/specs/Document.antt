@@ -4,7 +4,7 @@ use Rattle.entry_list.specs.EntryImage.{version_code}
 use Rattle.entry_list.specs.Record.{Record}
 use Rattle.index_model.specs.Contents.{Contents}
 use Rattle.index_model.specs.Outcome.{Outcome}
-use Rattle.ext_marks.specs.declared.Marks.{Marks}
+use Rattle.ext_small.specs.declared.marks.Marks.{Marks}
 use Rattle.index_parts.specs.declared.hash.ObjectId.{ObjectId}
 use Rattle.view_events.specs.declared.event.Datum.TheVariants.{Answer, Id, Number}
 use Rattle.view_events.specs.declared.event.Key.TheVariants as keys

@@ -2,8 +2,8 @@
 -- "Index Entry Offset Table" and "End of Index Entry".
 use Rattle.std.specs.Prelude.{ℕ, Bool, List, [], ◌∷◌, ◌++◌, length, Option, Some, None, if◌then◌else◌}
 use Rattle.std.specs.Option.{option_map}
-use Rattle.ext_marks.specs.declared.EndMark.{EndMark}
-use Rattle.ext_marks.specs.declared.Marks.{Marks}
+use Rattle.ext_small.specs.declared.marks.EndMark.{EndMark}
+use Rattle.ext_small.specs.declared.marks.Marks.{Marks}
 use Rattle.ext_small.specs.declared.index_entry_offset_table.Offset.{Offset}
 use Rattle.view_events.specs.declared.event.Datum.TheVariants.{Absent, Answer, Block, Id, Malformed, Number}
 use Rattle.view_events.specs.declared.event.Item.TheVariants as items

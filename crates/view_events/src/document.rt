@@ -17,7 +17,7 @@ use crate::undo::write_undo;
 use crate::untracked::write_untracked;
 use base_text::append::Appended;
 use base_text::block::{put_block, put_text};
-use ext_marks::Marks;
+use ext_small::marks::Marks;
 use index_parts::hash::ObjectId;
 use index_parts::hash::io::Out;
 use index_state::State;
@@ -72,8 +72,8 @@ fn write_behind<P: Printer, W: Out>(
 }
 
 /// Writes the content of an index file as the text of a printer: its index, and the id at its end. The content of its
-/// offset table and its end marker is the argument `marks`, as [`marks_of`](ext_marks::marks_of) reads it in the file's
-/// bytes. Extensions that the library doesn't read are left out.
+/// offset table and its end marker is the argument `marks`, as [`marks_of`](ext_small::marks::marks_of) reads it in the
+/// file's bytes. Extensions that the library doesn't read are left out.
 ///
 /// Text is collected in one buffer, which is written when it has more than 64 KiB.
 ///

@@ -10,8 +10,8 @@ use crate::event::Where::{Element, Member};
 use crate::event::{Item, Key};
 use crate::printer::{Printer, Text};
 use base_text::append::Appended;
-use ext_marks::EndMark;
 use ext_small::index_entry_offset_table::Offset;
+use ext_small::marks::EndMark;
 
 /// Appends whether there is an offset table, and its content.
 pub fn append_table<P: Printer>(text: &mut Text, had: bool, table: &Option<Vec<Offset>>) -> Appended

@@ -11,7 +11,7 @@ use Rattle.view_events.specs.declared.event.Where.TheVariants as places
 use Rattle.view_events.specs.Event.{Event, begin_array, begin_collection, begin_object, datum_field, end_array}
 use Rattle.view_events.specs.Event.{end_object, end_text, entry_item, print}
 use Rattle.index_model.specs.Contents.{Contents}
-use Rattle.ext_marks.specs.declared.Marks.{Marks}
+use Rattle.ext_small.specs.declared.marks.Marks.{Marks}
 use Rattle.index_parts.specs.declared.hash.ObjectId.{ObjectId}
 use Rattle.view_json.specs.EntryValues.{entry_value}
 use Rattle.view_json.specs.Json.{datum_value, event_text}

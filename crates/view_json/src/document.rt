@@ -6,7 +6,7 @@ ghost use Rattle.view_json.specs.Json.{event_text, json_text};
 
 use crate::events::append_event;
 use base_text::append::Appended;
-use ext_marks::Marks;
+use ext_small::marks::Marks;
 use index_parts::hash::ObjectId;
 use index_parts::hash::io::Out;
 use index_state::State;
@@ -31,7 +31,7 @@ impl Printer for Json {
 /// Writes the content of an index file, its index and the id at its end, as one JSON object (RFC 8259) on one line.
 /// Fields have the names that they have in the library. If a text isn't UTF-8, its value is its bytes in base 16, and
 /// its member's name ends with `_bytes`. The offset table and the end marker are the argument `marks`, as
-/// [`marks_of`](ext_marks::marks_of) reads them.
+/// [`marks_of`](ext_small::marks::marks_of) reads them.
 ///
 /// Text is collected in one buffer, which is written when it has more than 64 KiB.
 ///

@@ -16,7 +16,7 @@ use crate::position::{Position, field_name, position_of};
 use crate::values::append_piece;
 use base_text::append::{Appended, append_decimal};
 use entry_list::Entry;
-use ext_marks::Marks;
+use ext_small::marks::Marks;
 use index_parts::hash::ObjectId;
 use index_parts::hash::io::Out;
 use index_state::State;

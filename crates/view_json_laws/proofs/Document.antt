@@ -6,8 +6,8 @@ use Rattle.ext_bitmap.specs.Bitmap.{Bitmap}
 use Rattle.ext_tree.specs.Tree.{Node, Nodes, node, none, more}
 use Rattle.entry_list.specs.Record.{Record}
 use Rattle.index_model.specs.Contents.{Contents}
-use Rattle.ext_marks.specs.declared.EndMark.{EndMark}
-use Rattle.ext_marks.specs.declared.Marks.{Marks}
+use Rattle.ext_small.specs.declared.marks.EndMark.{EndMark}
+use Rattle.ext_small.specs.declared.marks.Marks.{Marks}
 use Rattle.index_parts.specs.declared.hash.ObjectId.{ObjectId}
 use Rattle.ext_small.specs.FsMonitor.{Monitor, TokenValue, nanoseconds, opaque}
 use Rattle.ext_small.specs.ResolveUndo.{PathStages}

@@ -7,7 +7,7 @@ use Rattle.view_events.specs.Event.{Event, begin_array, begin_collection, begin_
 use Rattle.view_events.specs.Event.{end_array, end_object, end_text, entry_item, exclude_file, ranges_field}
 use Rattle.view_events.specs.Event.{text_field}
 use Rattle.index_model.specs.Contents.{Contents}
-use Rattle.ext_marks.specs.declared.Marks.{Marks}
+use Rattle.ext_small.specs.declared.marks.Marks.{Marks}
 use Rattle.index_parts.specs.declared.hash.ObjectId.{ObjectId}
 use Rattle.view_events.specs.declared.event.Datum.TheVariants.{Answer, Id}
 use Rattle.view_json.specs.Names.{Position, alone, element, first, next, position_of}

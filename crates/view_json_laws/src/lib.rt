@@ -5,7 +5,7 @@ ghost use Rattle.std.specs.Prelude.{◌≡◌, ◌++◌, List, codes, Option, So
 ghost use Rattle.view_events.specs.Event.{Event, print};
 ghost use Rattle.view_events.specs.Document.{document_events};
 ghost use Rattle.index_model.specs.Contents.{Contents};
-ghost use Rattle.ext_marks.specs.declared.Marks.{Marks};
+ghost use Rattle.ext_small.specs.declared.marks.Marks.{Marks};
 ghost use Rattle.index_parts.specs.declared.hash.ObjectId.{ObjectId};
 ghost use Rattle.json.specs.Json.{Json};
 ghost use Rattle.view_json.specs.Json.{event_text, json_text};

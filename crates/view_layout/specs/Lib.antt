@@ -1,2 +1,10 @@
 pub mod Lines
 pub mod Piece
+pub mod Cover
+pub mod GroupSteps
+pub mod Groups
+pub mod Legend
+pub mod Picture
+pub mod Scale
+pub mod Shade
+pub mod Xml

@@ -67,7 +67,7 @@ fn append_entry(
 }
 
 /// Appends the description of a part. An entry has its number and its path.
-pub fn append_what(
+pub(crate) fn append_what(
     lines: &mut Vec<u8>,
     style: Lines,
     entries: &EntrySlice<'_>,

@@ -1,7 +1,7 @@
 -- The lines of entries (the library's own). The parts of an entry are those of gitformat-index, "Index entry".
 use Rattle.std.specs.Prelude.{ℕ, ◌==◌, Bool, not, List, [], ◌++◌, bit_and, codes, decimal, if◌then◌else◌}
 use Rattle.entry_fields.specs.Flags.{stage_number}
-use Rattle.base_objects.specs.Mode.{commit_mode, directory_mode, executable_mode, file_mode, link_mode}
+use Rattle.index_parts.specs.Mode.{commit_mode, directory_mode, executable_mode, file_mode, link_mode}
 use Rattle.entry_list.specs.Record.{Record}
 use Rattle.entry_fields.specs.declared.entry.stat.Stat.{Stat}
 use Rattle.entry_fields.specs.declared.entry.stat.Time.{Time}

@@ -4,7 +4,7 @@ use Rattle.view_events.specs.Document.{document_events}
 use Rattle.view_events.specs.Event.{Event, begin_array, begin_collection, begin_object, datum_field, directory_facts}
 use Rattle.view_events.specs.Event.{entry_item, exclude_file, print, ranges_field, text_field}
 use Rattle.index_model.specs.Contents.{Contents}
-use Rattle.ext_marks.specs.declared.Marks.{Marks}
+use Rattle.ext_small.specs.declared.marks.Marks.{Marks}
 use Rattle.index_parts.specs.declared.hash.ObjectId.{ObjectId}
 use Rattle.view_show.specs.Entries.{entry_lines}
 use Rattle.view_show.specs.Fields.{datum_text, ranges_line, text_line}

@@ -10,7 +10,7 @@ use crate::structure::{
 };
 use crate::untracked::{append_exclude, append_facts};
 use base_text::append::Appended;
-use ext_marks::Marks;
+use ext_small::marks::Marks;
 use index_parts::hash::ObjectId;
 use index_parts::hash::io::Out;
 use index_state::State;
@@ -47,8 +47,8 @@ impl Printer for Lines {
 }
 
 /// Writes the content of an index file for people, line by line: its index, the id at its end, its offset table and its
-/// end marker. The last two are the argument `marks`, as [`marks_of`](ext_marks::marks_of) reads them in the file's
-/// bytes. Extensions that the library doesn't read are left out.
+/// end marker. The last two are the argument `marks`, as [`marks_of`](ext_small::marks::marks_of) reads them in the
+/// file's bytes. Extensions that the library doesn't read are left out.
 ///
 /// Lines are collected in one buffer, which is written when it has more than 64 KiB.
 ///

@@ -19,7 +19,7 @@ use Rattle.base_search.specs.Halving.{IsPartedAt, IsRising}
 use Rattle.base_search.specs.Prefix.{prefix_cmp}
 use Rattle.base_search.proofs.Halving.{position_is}
 use Rattle.base_search.proofs.Parting.{behind_middle, greater_from, less_from}
-use Rattle.base_objects.specs.Mode.{directory_mode}
+use Rattle.index_parts.specs.Mode.{directory_mode}
 use Rattle.view_strict.specs.Beside.{IsFirstPlace, counts_in, directory_prefix, has_sides_beside, is_beside, lies_in}
 
 is_equal : (o : Ordering) → is_ne o ≡ false → is_eq o ≡ true

@@ -7,7 +7,7 @@ use Rattle.entry_edit.specs.EditSteps.{is_side_at}
 use Rattle.entry_list.specs.Order.{record_stage}
 use Rattle.entry_list.specs.Record.{Record}
 use Rattle.entry_lookup.specs.Range.{begins_with, is_at}
-use Rattle.base_objects.specs.Mode.{directory_mode}
+use Rattle.index_parts.specs.Mode.{directory_mode}
 
 -- The prefix of all paths that are below a path. The path of a sparse directory already ends with a slash.
 abbrev pub directory_prefix : Bool → List ℕ → List ℕ

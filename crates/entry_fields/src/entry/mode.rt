@@ -2,12 +2,12 @@
 
 ghost use Rattle.std.specs.Prelude.{◌≡◌, ◌⊎◌, ⊤, [], ◌∷◌, codes, ◌==◌, ◌&&◌, if◌then◌else◌};
 ghost use Rattle.std.specs.Option.{option_map};
-ghost use Rattle.base_objects.specs.Mode.{stored_mode, directory_mode, commit_mode, file_mode, executable_mode};
-ghost use Rattle.base_objects.specs.Mode.{link_mode, mode_of_kind, named_kind};
+ghost use Rattle.index_parts.specs.Mode.{stored_mode, directory_mode, commit_mode, file_mode, executable_mode};
+ghost use Rattle.index_parts.specs.Mode.{link_mode, mode_of_kind, named_kind};
 ghost use Rattle.entry_fields.specs.ModeChange.{mode_change_of, change_due, mode_after, other_bit};
 
-use base_objects::object::tree::{EntryKind, EntryMode};
 use bitflags::{Flag, Flags, bitflag_items};
+use index_parts::object::tree::{EntryKind, EntryMode};
 
 /// The mode of an entry: the type of its file, and whether its owner may run it.
 ///

@@ -2,8 +2,8 @@
 
 ghost use Rattle.std.specs.Prelude.{◌≡◌, ◌⊎◌, List, length, map, Some, None, IfOk, IfErr};
 ghost use Rattle.index_parts.specs.Id.{id_kind};
-ghost use Rattle.base_objects.specs.Object.{tree_bytes};
-ghost use Rattle.base_objects.specs.TreeObject.{TreeEntry, Lists, tree_entry_of};
+ghost use Rattle.index_parts.specs.Object.{tree_bytes};
+ghost use Rattle.index_parts.specs.TreeObject.{TreeEntry, Lists, tree_entry_of};
 ghost use Rattle.ext_tree.specs.Agreement.{Trees, AreStoredTrees, directories, has_child};
 ghost use Rattle.ext_tree.specs.Sound.{RiseFrom};
 ghost use Rattle.ext_tree.specs.Tree.{node_of, nodes_from};
@@ -14,11 +14,11 @@ ghost use Rattle.ext_tree.specs.TreeFaults.{NodeOrMemoryCause};
 use super::Error;
 use crate::Tree;
 use crate::order::compare_to;
-use base_objects::object;
-use base_objects::object::tree::{Entries, EntryRef};
-use base_objects::object::{Find, find};
 use bstr::BString;
 use index_parts::hash::{Kind, ObjectId};
+use index_parts::object;
+use index_parts::object::tree::{Entries, EntryRef};
+use index_parts::object::{Find, find};
 use std::alloc::Global;
 
 /// Reads the tree with this id into the buffer. It returns an error if there is none.

@@ -3,16 +3,16 @@
 ghost use Rattle.std.specs.Prelude.{IfErr, IfOk};
 ghost use Rattle.gix_index.specs.Outlined.{IsOutlined};
 ghost use Rattle.gix_index.specs.OnDisk.{IsFileFault, NeedsIntact};
-ghost use Rattle.index_outline.specs.Outlines.{OutlineIdsAreOf};
+ghost use Rattle.index_state.specs.Outlines.{OutlineIdsAreOf};
 
 use super::File;
 use super::init::{Error, check};
 use entry_fields::entry::FileTime;
 use index_decode::decode::{ReadAs, declared_in};
 use index_model::decode;
-pub use index_outline::Outline;
-use index_outline::outline_behind_header;
 use index_parts::hash::Kind;
+pub use index_state::outline::Outline;
+use index_state::outline::outline_behind_header;
 use std::alloc::Global;
 
 impl File {

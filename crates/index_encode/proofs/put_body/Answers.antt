@@ -1,8 +1,8 @@
 use Rattle.std.proofs.Common.{◌≡◌, ◌++◌, ◌∙◌, append-nil, length, refl, sym, ap}
 use Rattle.std.specs.List.{flat_map}
 use Rattle.index_parts.proofs.Puts.{puts_after, puts_broken, puts_is, puts_stopped, puts_then}
-use Rattle.ext_list.specs.Chosen.{Extensions as Chosen, extensions_of, items}
-use Rattle.ext_list.proofs.Heads.{heads_are}
+use Rattle.ext_encode.specs.Chosen.{Extensions as Chosen, extensions_of, items}
+use Rattle.ext_encode.proofs.Heads.{heads_are}
 use Rattle.index_extensions.specs.EndMarker.{heads}
 use Rattle.index_extensions.specs.Encoding.{item_bytes, marker_item}
 use Rattle.entry_list.specs.EntryImage.{header_bytes, written}

@@ -1,7 +1,7 @@
 use Rattle.std.proofs.Common.{◌≡◌, ◌+◌, ◌∙◌, Option, Some, None, MatchResult, sym, ap, refl, subst, drop}
 use Rattle.std.proofs.lemmas.Result.{err_from_is_err_and}
 use Rattle.std.specs.Option.{is_some, option_or}
-use Rattle.base_objects.specs.declared.object.tree.EntryKind.TheVariants as kinds
+use Rattle.index_parts.specs.declared.object.tree.EntryKind.TheVariants as kinds
 use Rattle.entry_edit.specs.Refusals.{name_fault, names_fault, names_of}
 use Rattle.entry_edit.specs.declared.error.Error.{Error}
 use Rattle.entry_edit.proofs.Names.{first_name, last_name}

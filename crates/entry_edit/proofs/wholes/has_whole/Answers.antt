@@ -1,5 +1,5 @@
 use Rattle.std.proofs.Common.{◌∙◌, ◌==◌, sym, ap, arith}
-use Rattle.base_objects.specs.Mode.{directory_mode}
+use Rattle.index_parts.specs.Mode.{directory_mode}
 use Rattle.entry_list.specs.Record.{Record}
 use Rattle.entry_edit.proofs.Anys.{any_part, none_part}
 use Rattle.entry_edit.proofs.wholes.has_whole.Goals as goal

@@ -1,6 +1,6 @@
 use Rattle.std.proofs.Common.{◌≡◌, ◌==◌, false}
 use Rattle.std.specs.List.{AllWithin}
-use Rattle.base_objects.specs.Mode.{directory_mode}
+use Rattle.index_parts.specs.Mode.{directory_mode}
 use Rattle.entry_edit.proofs.wholes.has_whole.Given as goal
 
 abbrev pub invariant-loop-place : goal.invariant-loop-place

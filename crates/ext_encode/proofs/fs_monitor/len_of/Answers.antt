@@ -1,8 +1,8 @@
 use Rattle.std.proofs.Common.{◌≡◌, ◌+◌, length, arith, sym, ap, ◌∙◌}
 use Rattle.index_parts.specs.Numbers.{within_32}
-use Rattle.ext_bitmap_encode.specs.BitmapImage.{bitmap_bytes}
+use Rattle.ext_bitmap.specs.BitmapImage.{bitmap_bytes}
 use Rattle.ext_encode.specs.MonitorImage.{borrowed_monitor, monitor_bytes}
-use Rattle.ext_bitmap_encode.proofs.Lengths.{none_within, some_within, within_none, within_some}
+use Rattle.ext_bitmap.proofs.Lengths.{none_within, some_within, within_none, within_some}
 use Rattle.ext_encode.proofs.WrittenMonitors.{monitor_len}
 use Rattle.ext_encode.proofs.fs_monitor.len_of.Goals as goal
 

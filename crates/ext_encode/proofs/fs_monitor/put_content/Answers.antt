@@ -1,8 +1,8 @@
 use Rattle.std.proofs.Common.{◌++◌, refl, arith}
 use Rattle.index_parts.proofs.Puts.{puts_after, puts_is, puts_stopped}
 use Rattle.index_parts.specs.Numbers.{be32}
-use Rattle.ext_bitmap_encode.specs.BitmapImage.{bitmap_bytes}
-use Rattle.ext_bitmap_encode.proofs.WrittenBitmaps.{bitmap_len}
+use Rattle.ext_bitmap.specs.BitmapImage.{bitmap_bytes}
+use Rattle.ext_bitmap.proofs.WrittenBitmaps.{bitmap_len}
 use Rattle.ext_encode.specs.MonitorImage.{borrowed_monitor, token_bytes}
 use Rattle.ext_encode.proofs.WrittenMonitors.{monitor_pieces}
 use Rattle.ext_encode.proofs.fs_monitor.put_content.Goals as goal

@@ -2,7 +2,7 @@ use Rattle.std.proofs.Common.{arith}
 use Rattle.std.specs.Prelude.{codes}
 use Rattle.index_parts.proofs.Puts.{puts_after, puts_is, puts_stopped}
 use Rattle.ext_encode.specs.MonitorImage.{borrowed_monitor, monitor_bytes}
-use Rattle.ext_bitmap_encode.proofs.Lengths.{item_parts}
+use Rattle.ext_bitmap.proofs.Lengths.{item_parts}
 use Rattle.ext_encode.proofs.WrittenMonitors.{monitor_len}
 use Rattle.ext_encode.proofs.fs_monitor.put_parts.Goals as goal
 

@@ -5,7 +5,7 @@ use Rattle.index_parts.specs.Numbers.{within_32}
 use Rattle.ext_small.specs.ResolveUndo.{path_stages}
 use Rattle.ext_small.specs.declared.resolve_undo.ResolvePath.{ResolvePath}
 use Rattle.ext_encode.specs.ResolveUndoImage.{path_bytes}
-use Rattle.ext_bitmap_encode.proofs.Lengths.{too_long_at, within_some}
+use Rattle.ext_bitmap.proofs.Lengths.{too_long_at, within_some}
 use Rattle.ext_encode.proofs.WrittenPaths.{listed}
 use Rattle.ext_encode.proofs.resolve_undo.content_len.Goals as goal
 

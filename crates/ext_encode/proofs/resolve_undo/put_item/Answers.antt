@@ -3,7 +3,7 @@ use Rattle.std.specs.Prelude.{codes}
 use Rattle.index_parts.proofs.Puts.{puts_after, puts_is, puts_stopped}
 use Rattle.ext_small.specs.ResolveUndo.{path_stages}
 use Rattle.ext_encode.specs.ResolveUndoImage.{resolve_undo_bytes}
-use Rattle.ext_bitmap_encode.proofs.Lengths.{item_parts}
+use Rattle.ext_bitmap.proofs.Lengths.{item_parts}
 use Rattle.ext_encode.proofs.WrittenPaths.{listed}
 use Rattle.ext_encode.proofs.resolve_undo.put_item.Goals as goal
 

@@ -6,7 +6,7 @@ use Rattle.ext_untracked.specs.Blocks.{directory_value}
 use Rattle.ext_untracked.specs.Untracked.{cache_of}
 use Rattle.ext_encode.specs.UntrackedImage.{directories_bytes}
 use Rattle.ext_encode.proofs.WrittenDirectories.{cache_grouped, cache_parts}
-use Rattle.ext_bitmap_encode.proofs.WrittenForms.{stopped_behind}
+use Rattle.ext_bitmap.proofs.WrittenForms.{stopped_behind}
 use Rattle.ext_encode.proofs.untracked_cache.put_content.Goals as goal
 
 pub returns-in_err-put_preamble : goal.returns-in_err-put_preamble

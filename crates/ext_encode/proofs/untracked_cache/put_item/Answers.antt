@@ -3,7 +3,7 @@ use Rattle.std.specs.Prelude.{codes}
 use Rattle.index_parts.proofs.Puts.{puts_after, puts_is, puts_stopped}
 use Rattle.ext_untracked.specs.Untracked.{cache_of}
 use Rattle.ext_encode.specs.UntrackedImage.{cache_bytes}
-use Rattle.ext_bitmap_encode.proofs.Lengths.{item_parts}
+use Rattle.ext_bitmap.proofs.Lengths.{item_parts}
 use Rattle.ext_encode.proofs.WrittenDirectories.{many_bytes}
 use Rattle.ext_encode.proofs.untracked_cache.put_item.Goals as goal
 

@@ -5,7 +5,7 @@ use Rattle.index_parts.specs.Numbers.{within_32}
 use Rattle.ext_untracked.specs.Blocks.{directory_value}
 use Rattle.ext_untracked.specs.declared.Directory.{Directory}
 use Rattle.ext_encode.specs.UntrackedImage.{known_bytes}
-use Rattle.ext_bitmap_encode.proofs.Lengths.{none_within, some_within, too_long_at, within_some}
+use Rattle.ext_bitmap.proofs.Lengths.{none_within, some_within, too_long_at, within_some}
 use Rattle.ext_encode.proofs.WrittenSizes.{known_same}
 use Rattle.ext_encode.proofs.untracked_sizes.blocks_len.Goals as goal
 

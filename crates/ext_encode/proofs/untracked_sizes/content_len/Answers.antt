@@ -5,7 +5,7 @@ use Rattle.index_parts.specs.Offset.{offset_bytes}
 use Rattle.ext_untracked.specs.Blocks.{directory_value}
 use Rattle.ext_untracked.specs.Untracked.{cache_of}
 use Rattle.ext_encode.specs.UntrackedImage.{cache_bytes, directories_bytes, preamble_bytes}
-use Rattle.ext_bitmap_encode.proofs.Lengths.{none_within, some_within, within_none, within_some}
+use Rattle.ext_bitmap.proofs.Lengths.{none_within, some_within, within_none, within_some}
 use Rattle.ext_encode.proofs.WrittenSizes.{cache_sum}
 use Rattle.ext_encode.proofs.untracked_sizes.content_len.Goals as goal
 

@@ -4,7 +4,7 @@ use Rattle.std.proofs.lemmas.Bool.{eqb-true, eqb-false}
 use Rattle.index_parts.specs.Numbers.{within_32}
 use Rattle.ext_untracked.specs.Blocks.{directory_value}
 use Rattle.ext_encode.specs.UntrackedImage.{directories_bytes, known_bytes}
-use Rattle.ext_bitmap_encode.proofs.Lengths.{none_within, some_within, within_none, within_some}
+use Rattle.ext_bitmap.proofs.Lengths.{none_within, some_within, within_none, within_some}
 use Rattle.ext_encode.proofs.WrittenDirectories.{no_directories}
 use Rattle.ext_encode.proofs.WrittenSizes.{directories_sum, known_many}
 use Rattle.ext_encode.proofs.untracked_sizes.directories_len.Goals as goal

@@ -3,7 +3,7 @@ use Rattle.bstr.specs.Owned.{bstring_bytes}
 use Rattle.index_parts.specs.Numbers.{within_32}
 use Rattle.ext_untracked.specs.Blocks.{directory_value}
 use Rattle.ext_encode.specs.UntrackedImage.{known_bytes, names_bytes}
-use Rattle.ext_bitmap_encode.proofs.Lengths.{none_within, some_within, within_none, within_some}
+use Rattle.ext_bitmap.proofs.Lengths.{none_within, some_within, within_none, within_some}
 use Rattle.ext_encode.proofs.WrittenSizes.{known_len}
 use Rattle.ext_encode.proofs.untracked_sizes.directory_len.Goals as goal
 

@@ -4,7 +4,7 @@ use Rattle.bstr.specs.declared.bstring.BString.{BString}
 use Rattle.std.specs.List.{flat_map}
 use Rattle.std.proofs.lemmas.List.{take_all}
 use Rattle.index_parts.specs.Numbers.{within_32}
-use Rattle.ext_bitmap_encode.proofs.Lengths.{too_long_at, within_some}
+use Rattle.ext_bitmap.proofs.Lengths.{too_long_at, within_some}
 use Rattle.ext_encode.proofs.WrittenDirectories.{names_same}
 use Rattle.ext_encode.proofs.untracked_sizes.names_len.Goals as goal
 

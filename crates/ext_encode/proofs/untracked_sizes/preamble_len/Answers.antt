@@ -3,7 +3,7 @@ use Rattle.index_parts.specs.Numbers.{within_32}
 use Rattle.index_parts.specs.Offset.{offset_bytes}
 use Rattle.ext_untracked.specs.Untracked.{cache_of}
 use Rattle.ext_encode.specs.UntrackedImage.{file_id, preamble_bytes}
-use Rattle.ext_bitmap_encode.proofs.Lengths.{within_none, within_some}
+use Rattle.ext_bitmap.proofs.Lengths.{within_none, within_some}
 use Rattle.ext_encode.proofs.WrittenSizes.{preamble_sum}
 use Rattle.ext_encode.proofs.untracked_sizes.preamble_len.Goals as goal
 use Rattle.ext_encode.proofs.untracked_sizes.preamble_len.Goals.{then-identifier-from-via-then-identifier-from, then-identifier-from-via-else-identifier-from+then-name-from}

@@ -1,7 +1,7 @@
 use Rattle.std.proofs.Common.{◌⊎◌, rules}
 use Rattle.gix_index.specs.Kind.{Kind}
 use Rattle.index_c.specs.Checking.{IsSoundSummary, IsUnsoundIndex}
-use Rattle.capi_codes.specs.Summaries.{IsRefusedIndex, IsUnread}
+use Rattle.index_c.specs.Summaries.{IsRefusedIndex, IsUnread}
 use Rattle.capi_table.specs.Reading.{IsReadSo}
 use Rattle.capi_table.proofs.Joins.{read_weaker}
 use Rattle.index_c.proofs.Checks.{check_refused, check_unread}

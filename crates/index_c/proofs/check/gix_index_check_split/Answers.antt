@@ -1,7 +1,7 @@
 use Rattle.std.proofs.Common.{◌⊎◌, rules}
 use Rattle.gix_index.specs.Kind.{Kind}
 use Rattle.index_c.specs.Checking.{AreSoundBoth, AreUnsoundBoth}
-use Rattle.capi_codes.specs.Joined.{AreRefusedBoth, LackMemory}
+use Rattle.index_c.specs.Joined.{AreRefusedBoth, LackMemory}
 use Rattle.capi_table.specs.Joining.{AreReadSo}
 use Rattle.capi_table.proofs.Joins.{both_weaker}
 use Rattle.index_c.proofs.Checks.{both_lack, both_refused}

@@ -1,12 +1,12 @@
 use Rattle.std.proofs.Common.{◌≡◌, arith, rules}
 use Rattle.gix_index.specs.Contents.{Contents}
 use Rattle.gix_index.specs.Kind.{Kind}
-use Rattle.capi_codes.specs.Joined.{AreRefusedBoth, LackMemory}
-use Rattle.capi_codes.specs.Summaries.{IsSummaryWith}
+use Rattle.index_c.specs.Joined.{AreRefusedBoth, LackMemory}
+use Rattle.index_c.specs.Summaries.{IsSummaryWith}
 use Rattle.capi_table.specs.Joining.{AreReadSo, FailBoth}
 use Rattle.capi_table.specs.Reading.{Fills, IsTooSmall}
 use Rattle.capi_table.proofs.Joins.{both_weaker}
-use Rattle.capi_codes.proofs.Refusals.{lack_both, refused_both}
+use Rattle.index_c.proofs.Refusals.{lack_both, refused_both}
 use Rattle.index_c.proofs.Tellings.{done_told, failure_told, kept_told, no_room_told, with_kind}
 use Rattle.index_c.proofs.read.gix_index_read_split.Goals as goal
 

@@ -2,9 +2,9 @@ use Rattle.std.proofs.Common.{◌≡◌, true, rules}
 use Rattle.gix_index.specs.Kind.{Kind}
 use Rattle.index_c.specs.Giving.{AreCountsReported, IsErrorReported, empty_report}
 use Rattle.capi_table.specs.Fitting.{IsFitTable}
-use Rattle.capi_trees.specs.Blaming.{HasNoTrees}
-use Rattle.capi_trees.specs.Trees.{HoldTrees, MakesTrees, PassRoom}
-use Rattle.capi_trees.specs.declared.trees.Counts.{Counts}
+use Rattle.capi_table.specs.Blaming.{HasNoTrees}
+use Rattle.capi_table.specs.Trees.{HoldTrees, MakesTrees, PassRoom}
+use Rattle.capi_table.specs.declared.trees.Counts.{Counts}
 use Rattle.index_c.proofs.Tellings.{with_kind}
 use Rattle.index_c.proofs.Giving.{done_told, error_reported, kept_told, memory_told, passed_told}
 use Rattle.index_c.proofs.trees.gix_index_trees.Goals as goal

@@ -1,6 +1,6 @@
 use Rattle.std.proofs.Common.{◌≡◌, false, rules}
 use Rattle.gix_index.specs.Kind.{Kind}
-use Rattle.capi_codes.specs.Joined.{LackMemory}
+use Rattle.index_c.specs.Joined.{LackMemory}
 use Rattle.index_c.specs.Updated.{IsRefusedUpdate, as_read}
 use Rattle.index_c.specs.Written.{IsImageReported}
 use Rattle.capi_table.specs.Updating.{HasKeptImage, PassesRoomKept, UpdatesTable}

@@ -2,7 +2,7 @@ use Rattle.std.proofs.Common.{◌≡◌, ◌+◌, ◌≤◌, ◌^◌, ◌∙◌,
 use Rattle.std.specs.List.{flat_map}
 use Rattle.entry_list.specs.Counted.{counted_in}
 use Rattle.entry_list.specs.EntryImage.{written}
-use Rattle.ext_list.specs.Chosen.{Extensions as Chosen, items}
+use Rattle.ext_encode.specs.Chosen.{Extensions as Chosen, items}
 use Rattle.index_extensions.specs.Encoding.{item_bytes}
 use Rattle.index_model.specs.Contents.{parts_contents}
 use Rattle.index_model.specs.Image.{image_version, extension_items}

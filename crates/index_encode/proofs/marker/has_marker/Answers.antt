@@ -1,6 +1,6 @@
 use Rattle.std.proofs.Common.{◌∙◌, ap, length, sym}
 use Rattle.std.specs.List.{flat_map}
-use Rattle.ext_list.specs.Chosen.{Extensions as Chosen, items}
+use Rattle.ext_encode.specs.Chosen.{Extensions as Chosen, items}
 use Rattle.index_extensions.specs.Encoding.{item_bytes}
 use Rattle.index_model.specs.Contents.{parts_contents}
 use Rattle.index_encode.proofs.Bodies.{marker_told}

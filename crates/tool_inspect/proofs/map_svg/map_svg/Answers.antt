@@ -2,7 +2,7 @@ use Rattle.std.proofs.Common.{refl}
 use Rattle.std.proofs.KnownBytes.{Keeps-refl}
 use Rattle.std.proofs.lemmas.Result.{err_from_is_err_and}
 use Rattle.tool_errors.specs.Outputs.{part, untold}
-use Rattle.view_picture.specs.Picture.{picture_text}
+use Rattle.view_layout.specs.Picture.{picture_text}
 use Rattle.tool_inspect.proofs.Mappings.{any_parts, parts_of, parts_told}
 use Rattle.tool_inspect.proofs.map_svg.map_svg.Goals as goal
 

@@ -1,8 +1,8 @@
 use Rattle.std.proofs.Common.{rules, ◌≡◌, ◌++◌, ◌∷◌, [], true, false, List, ℕ, sym, subst, ◌∙◌}
 use Rattle.std.specs.Prelude.{is_err}
-use Rattle.base_objects.proofs.TreeLists.{gives_some, gives_malformed, gives_left}
-use Rattle.base_objects.proofs.TreeObjects.{entries_push, malformed_behind}
-use Rattle.base_objects.specs.TreeObject.{AreTreeEntries, kind_of_entries, unread_entries}
+use Rattle.index_parts.proofs.TreeLists.{gives_some, gives_malformed, gives_left}
+use Rattle.index_parts.proofs.TreeObjects.{entries_push, malformed_behind}
+use Rattle.index_parts.specs.TreeObject.{AreTreeEntries, kind_of_entries, unread_entries}
 use Rattle.tree_decode.proofs.read.is_whole.Goals as goal
 
 pub loop-entry-init : goal.loop-entry-init

@@ -1,5 +1,5 @@
 use Rattle.std.proofs.Common.{◌≡◌, List}
-use Rattle.base_objects.specs.TreeObject.{TreeEntry, AreTreeEntries, kind_of_entries, unread_entries}
+use Rattle.index_parts.specs.TreeObject.{TreeEntry, AreTreeEntries, kind_of_entries, unread_entries}
 use Rattle.tree_decode.proofs.read.is_whole.Given as goal
 
 -- the entries so far are before the bytes that aren't read

@@ -1,6 +1,6 @@
 use Rattle.std.proofs.Common.{rules, ℕ, Some, ap, sym, subst, ◌∙◌}
-use Rattle.base_objects.specs.TreeObject.{IsMalformedTree}
-use Rattle.base_objects.specs.declared.object.Kind.TheVariants.{Tree, Blob, Commit, Tag}
+use Rattle.index_parts.specs.TreeObject.{IsMalformedTree}
+use Rattle.index_parts.specs.declared.object.Kind.TheVariants.{Tree, Blob, Commit, Tag}
 use Rattle.tree_decode.proofs.Objects.{found_none, found_some, found_fault}
 use Rattle.tree_decode.specs.Leaves.{Find, IsUnreadTree, missing, failed, malformed, other}
 use Rattle.tree_decode.proofs.read.read_tree.Goals as goal

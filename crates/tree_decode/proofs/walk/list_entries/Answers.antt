@@ -1,9 +1,9 @@
 use Rattle.std.proofs.Common.{rules, ◌≡◌, ◌++◌, [], ◌∷◌, ℕ, List, length, take, refl, ap, ◌∙◌}
 use Rattle.std.specs.Prelude.{◌≢◌}
 use Rattle.std.proofs.lemmas.Result.{err_from_is_err_and}
-use Rattle.base_objects.proofs.TreeLists.{gives_entry, gives_malformed, object_begins}
-use Rattle.base_objects.specs.TreeObject.{IsTreeEntry, kind_of_entries, tree_entry_of, unread_entries}
-use Rattle.base_objects.specs.declared.object.tree.EntryKind.TheVariants as kinds
+use Rattle.index_parts.proofs.TreeLists.{gives_entry, gives_malformed, object_begins}
+use Rattle.index_parts.specs.TreeObject.{IsTreeEntry, kind_of_entries, tree_entry_of, unread_entries}
+use Rattle.index_parts.specs.declared.object.tree.EntryKind.TheVariants as kinds
 use Rattle.tree_decode.proofs.Levels.{prefix_kept}
 use Rattle.tree_decode.proofs.Listings.{listing_ends, listing_leaf, listing_refused, listing_tree, says_also}
 use Rattle.tree_decode.specs.Leaves.{leaf_of}

@@ -1,5 +1,5 @@
 use Rattle.std.proofs.Common.{◌≡◌, ◌≤◌, take, length}
-use Rattle.base_objects.specs.TreeObject.{kind_of_entries, unread_entries}
+use Rattle.index_parts.specs.TreeObject.{kind_of_entries, unread_entries}
 use Rattle.tree_decode.specs.LeafSteps.{IsPacked}
 use Rattle.tree_decode.proofs.WalkLoops.{IsListing}
 use Rattle.tree_decode.proofs.walk.list_entries.Given as goal

@@ -1,7 +1,7 @@
 use Rattle.std.proofs.Common.{Some, sym, ap, ◌∙◌}
 use Rattle.std.specs.Prelude.{slice_index_or}
 use Rattle.std.proofs.lemmas.Bool.{false≢true}
-use Rattle.base_objects.specs.Mode.{named_kind}
+use Rattle.index_parts.specs.Mode.{named_kind}
 use Rattle.tree_encode.proofs.Checked.{is_misnamed, is_null_id, is_other_kind, is_other_mode, is_unmerged}
 use Rattle.tree_encode.proofs.Checked.{none_named, some_named}
 use Rattle.tree_encode.proofs.check.check_entry.Goals as goal

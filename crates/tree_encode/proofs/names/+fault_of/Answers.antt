@@ -1,6 +1,6 @@
 use Rattle.std.proofs.Common.{◌⊎◌, inl, inr, []}
 use Rattle.std.specs.Prelude.{◌≢◌}
-use Rattle.base_objects.specs.declared.object.tree.EntryKind.TheVariants as kinds
+use Rattle.index_parts.specs.declared.object.tree.EntryKind.TheVariants as kinds
 use Rattle.tree_encode.proofs.PathNames.{split_some, bad_front, too_deep, path_later, path_whole, later_some}
 use Rattle.tree_encode.proofs.PathNames.{empty_from, some_from}
 use Rattle.tree_encode.proofs.names.+fault_of.Goals as goal

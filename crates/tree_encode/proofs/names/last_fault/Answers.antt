@@ -1,8 +1,8 @@
 use Rattle.tree_encode.specs.Refusals.{of_file, last_name, no_slash}
 use Rattle.std.proofs.Common.{◌≡◌, sym, subst, None}
-use Rattle.base_objects.specs.declared.object.tree.EntryKind.{EntryKind}
-use Rattle.base_objects.specs.declared.object.tree.EntryKind.TheVariants as kinds
-use Rattle.base_objects.specs.NameCheck.{refusal_as}
+use Rattle.index_parts.specs.declared.object.tree.EntryKind.{EntryKind}
+use Rattle.index_parts.specs.declared.object.tree.EntryKind.TheVariants as kinds
+use Rattle.index_parts.specs.NameCheck.{refusal_as}
 use Rattle.tree_encode.specs.Refusals.{IsMisnamed}
 use Rattle.tree_encode.specs.declared.error.NameFault.TheVariants as faults
 use Rattle.tree_encode.proofs.names.last_fault.Goals as goal

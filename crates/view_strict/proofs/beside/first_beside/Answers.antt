@@ -1,7 +1,7 @@
 use Rattle.std.proofs.Common.{◌∙◌, ℕ, ap, get_or, sym}
 use Rattle.std.specs.Prelude.{◌==◌}
 use Rattle.entry_fields.specs.Flags.{stage_number}
-use Rattle.base_objects.specs.Mode.{directory_mode}
+use Rattle.index_parts.specs.Mode.{directory_mode}
 use Rattle.view_strict.proofs.Besides.{place_of_record}
 use Rattle.view_strict.proofs.beside.first_beside.Goals as goal
 

@@ -1,6 +1,6 @@
 use Rattle.std.proofs.Common.{sym, ◌∙◌}
 use Rattle.std.proofs.lemmas.Result.{err_from_is_err_and}
-use Rattle.base_objects.specs.TreeObject.{tree_entry_of}
+use Rattle.index_parts.specs.TreeObject.{tree_entry_of}
 use Rattle.ext_tree.proofs.Agreements.{no_memory_for_child}
 use Rattle.ext_tree.proofs.Sounds.{row_of_trees}
 use Rattle.ext_tree.proofs.verify.objects.check_child.Goals as goal

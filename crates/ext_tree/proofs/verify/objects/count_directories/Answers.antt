@@ -1,9 +1,9 @@
 use Rattle.std.proofs.Common.{◌<◌, ℕ, List, length, arith, refl, sym, ap, subst, ◌∙◌}
 use Rattle.std.proofs.lemmas.Result.{err_from_is_err_and}
-use Rattle.base_objects.proofs.TreeLists.{gives_entry, gives_malformed, gives_end}
-use Rattle.base_objects.proofs.TreeObjects.{entry_fewer}
+use Rattle.index_parts.proofs.TreeLists.{gives_entry, gives_malformed, gives_end}
+use Rattle.index_parts.proofs.TreeObjects.{entry_fewer}
 use Rattle.index_parts.specs.Id.{id_kind}
-use Rattle.base_objects.specs.TreeObject.{IsTreeEntry, tree_entry_of, kind_of_entries, unread_entries}
+use Rattle.index_parts.specs.TreeObject.{IsTreeEntry, tree_entry_of, kind_of_entries, unread_entries}
 use Rattle.ext_tree.specs.TreeFaults.{child_fault}
 use Rattle.ext_tree.proofs.Agreements.{CountsOn, counts_begin, counts_pass, counts_more, counts_fault}
 use Rattle.ext_tree.proofs.Agreements.{counts_end}

@@ -1,6 +1,6 @@
 use Rattle.std.proofs.Common.{◌≡◌, ◌+◌, ◌≤◌, length}
 use Rattle.index_parts.specs.Id.{id_kind}
-use Rattle.base_objects.specs.TreeObject.{kind_of_entries, unread_entries}
+use Rattle.index_parts.specs.TreeObject.{kind_of_entries, unread_entries}
 use Rattle.ext_tree.proofs.Agreements.{CountsOn}
 use Rattle.ext_tree.proofs.Sounds.{row_of_trees}
 use Rattle.ext_tree.proofs.verify.objects.count_directories.Given as goal

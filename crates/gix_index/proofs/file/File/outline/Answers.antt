@@ -3,8 +3,8 @@ use Rattle.std.proofs.lemmas.Result.{err_from_is_err_and}
 use Rattle.index_model.specs.Answer.{IsAnswer, IsBehindHeader}
 use Rattle.index_model.proofs.Answers.{body_late}
 use Rattle.gix_index.proofs.Checks.{error_says, to_file}
-use Rattle.index_outline.proofs.OutlineFaults.{says_weaker}
-use Rattle.index_outline.proofs.Outlines.{read_storable}
+use Rattle.index_state.proofs.OutlineFaults.{says_weaker}
+use Rattle.index_state.proofs.Outlines.{read_storable}
 use Rattle.gix_index.proofs.file.File.outline.Goals as goal
 
 pub returns-in_err-declared-clause-fault : goal.returns-in_err-declared-clause-fault

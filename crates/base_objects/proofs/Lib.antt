@@ -1,2 +1,0 @@
-pub mod TreeLists
-pub mod TreeObjects

@@ -1,4 +1,0 @@
-pub mod Joined
-pub mod Numbers
-pub mod Statuses
-pub mod Summaries

@@ -1,3 +1,0 @@
-mod Blames
-mod Cuts
-mod Makes

@@ -1,5 +1,0 @@
-use Rattle.capi_trees.proofs.Cuts.{Filled}
-use Rattle.capi_trees.proofs.collected.fill_rows.Given as goal
-
-abbrev pub invariant-loop-place : goal.invariant-loop-place
-invariant-loop-place l = Filled l.pieces l.fn.trees l.place l.start l.trees

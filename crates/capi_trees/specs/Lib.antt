@@ -1,4 +1,0 @@
-pub mod Blaming
-pub mod Collecting
-pub mod Putting
-pub mod Trees

@@ -1,3 +1,0 @@
-pub mod BitmapImage
-pub mod EncodedBitmap
-pub mod EncodingSteps

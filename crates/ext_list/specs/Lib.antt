@@ -1,5 +1,0 @@
-pub mod Chosen
-pub mod Lent
-pub mod Listing
-pub mod Marked
-pub mod PutsItems

@@ -1,4 +1,0 @@
-pub mod Candidates
-mod MergeLoops
-pub mod Merged
-pub mod Merging

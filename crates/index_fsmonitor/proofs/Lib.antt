@@ -1,3 +1,0 @@
-mod Eithers
-mod Markings
-mod Spellables

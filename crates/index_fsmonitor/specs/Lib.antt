@@ -1,2 +1,0 @@
-pub mod Dirty
-pub mod DirtySteps

@@ -1,2 +1,0 @@
-pub mod OutlineFaults
-pub mod Outlines

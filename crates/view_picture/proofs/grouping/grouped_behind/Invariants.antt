@@ -1,6 +1,0 @@
-use Rattle.std.proofs.Common.{◌≡◌, [], ◌∷◌, ◌++◌, take}
-use Rattle.view_picture.specs.Groups.{grouped}
-use Rattle.view_picture.proofs.grouping.grouped_behind.Given as goal
-
-abbrev pub invariant-loop-next : goal.invariant-loop-next
-invariant-loop-next l = l.groups.items ++ (l.last ∷ []) ≡ grouped (l.fn.first ∷ take l.next-index l.others)
