@@ -29,8 +29,9 @@ class Picture:
             f'<rect width="{width}" height="{height}" fill="#ffffff"/>',
         ]
 
-    def text(self, x, y, words, size=13, anchor="middle", fill=INK, mono=False, bold=False):
+    def text(self, x, y, words, size=13, anchor="middle", fill=INK, mono=False, bold=False, halo=False):
         style = f' font-family="{MONO}"' if mono else ""
+        style += ' stroke="#ffffff" stroke-width="4" paint-order="stroke"' if halo else ""
         style += ' font-weight="bold"' if bold else ""
         self.parts.append(
             f'<text x="{x:g}" y="{y:g}" font-size="{size}" text-anchor="{anchor}" fill="{fill}"{style}>'

@@ -34,7 +34,7 @@ def preload(room, name):
 def compiled(room, source, compiler, standard, flags):
     """What a compiler makes of a source, with the library."""
     words = (*compiler, f"-std={standard}", "-O1", "-g", "-Wall", "-Wextra", "-Werror", *flags)
-    links = (f"-I{room}/prefix/include", f"-I{TESTS}", f"{room}/prefix/lib/libgix_index.a", "-lpthread")
+    links = (f"-I{room}/prefix/include", f"-I{TESTS}", f"-L{room}/prefix/lib", "-l:libgix_index.a", "-lpthread")
     made = room / f"{source.stem}-{standard}{'-sanitized' if flags else ''}"
     run((*words, "-o", made, source, *links))
     return made

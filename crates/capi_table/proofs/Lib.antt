@@ -9,7 +9,7 @@ mod Results
 mod Rows
 mod SameRows
 mod Tables
-mod Trees
+mod KeptTrees
 mod Updates
 mod Writes
 mod WrittenRows

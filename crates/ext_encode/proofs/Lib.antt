@@ -10,6 +10,6 @@ pub mod WrittenPaths
 pub mod WrittenSizes
 pub mod Contents
 pub mod Heads
-pub mod Marks
+pub mod Signatures
 pub mod Sizes
 pub mod Wholes

@@ -56,15 +56,6 @@ pub record PutsBody {S : Type 0} (taken : S → Option (List ℕ)) (failed : S �
   pub loan : loan_of new ≡ loan_of old
   pub writable : OnOk r (IsWritable v options)
 
--- The result of writing all bytes of a file. The writer's borrows are unchanged, and its hashers take in the bytes.
-pub record PutsFile {S : Type 0} (taken : S → Option (List ℕ)) (failed : S → Bool)
-    (takes_in : S → ℕ → Kind → List ℕ → Type 0) (loan_of : S → List ℕ) (old new : S) (r : Result (Version × ObjectId) Error)
-    (f : File) (options : Options) : Type 0 where
-  pub answer : WritesIndex taken failed old new r (contents (state_of f)) options (image (contents (state_of f)) options)
-  pub hashed : OnOk r (Hashes takes_in old new (image (contents (state_of f)) options))
-  pub loan : loan_of new ≡ loan_of old
-  pub writable : OnOk r (IsWritable (contents (state_of f)) options)
-
 -- the version, the id and all bytes that are written for a file
 abbrev pub written_version : File → Options → Version
 written_version f options = image_version (contents (state_of f)) options

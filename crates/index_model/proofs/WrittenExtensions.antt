@@ -27,7 +27,7 @@ use Rattle.ext_untracked.specs.Untracked.{IsCache}
 use Rattle.ext_encode.specs.Chosen.{Extensions, item_if, items, sparse_items}
 use Rattle.ext_encode.specs.Marked.{AreSpellable, marked_items, marker_if}
 use Rattle.ext_encode.proofs.Contents.{last_cache, last_link, last_monitor, last_tree, last_undo, value_of}
-use Rattle.ext_encode.proofs.Marks.{marked, sparse, tabled}
+use Rattle.ext_encode.proofs.Signatures.{marked, sparse, tabled}
 use Rattle.entry_list.specs.EntryImage.{written}
 use Rattle.index_model.specs.Contents.{Contents}
 use Rattle.index_model.specs.Image.{chosen_extensions, fits_written, is_kept, extension_items, asks_for}

@@ -10,14 +10,18 @@ mod storable;
 mod storage;
 
 ghost use Rattle.std.specs.Borrow.{sem};
-ghost use Rattle.std.specs.Prelude.{◌≡◌, IfSome, option_copied};
+ghost use Rattle.std.specs.Prelude.{◌≡◌, ◌≢◌, ◌≤◌, All, IfErr, IfOk, IfSome, OnErr, OnOk, length, ok_or, option_copied};
 ghost use Rattle.entry_fields.specs.Flags.{stage_code};
 ghost use Rattle.index_state.specs.Edits.{LendsEntries};
-ghost use Rattle.entry_lookup.specs.Lookup.{HasKey, IsKeyAt, record_index};
-ghost use Rattle.entry_lookup.specs.Searches.{FindsPath, SearchesKey, SearchesPath};
-ghost use Rattle.index_state.specs.State.{entries_of, records};
-ghost use Rattle.index_state.specs.Edits.{record_from_parts};
-ghost use Rattle.index_state.specs.StateEdits.{Pushes};
+ghost use Rattle.entry_list.specs.Order.{IsOrderedByPath, IsStrictlyOrdered};
+ghost use Rattle.entry_list.specs.Record.{IdsAreOf};
+ghost use Rattle.entry_lookup.specs.Lookup.{HasKey, IsKeyAt, IsPathAt, IsPathGap, insertion_of, record_index};
+ghost use Rattle.entry_lookup.specs.Searches.{IsHalving};
+ghost use Rattle.index_model.specs.Storable.{IsStorable};
+ghost use Rattle.index_parts.specs.Id.{id_kind};
+ghost use Rattle.index_parts.specs.declared.hash.Kind.{Kind};
+ghost use Rattle.index_state.specs.State.{PathsInStorage, contents, entries_of, records};
+ghost use Rattle.index_state.specs.Edits.{AddsEntry, IsUnchanged, record_from_parts, with_record};
 ghost use Rattle.index_state.specs.StateSearches.{FindsEntry, FindsPlace, IsEntryWith};
 
 use crate::State;
@@ -59,7 +63,10 @@ impl State {
     /// This is guaranteed if the paths of the entries never decrease. In any other order the entry at a returned index
     /// still has that path. An error is then at most the number of entries.
     pub fn entry_index_by_path(&self, path: &[u8]) -> Result<usize, usize>
-        ensures { FindsPath path.now (records self.now) result }
+        ensures found { IfOk result (IsPathAt path.now (records self.now)) }
+        ensures in_range { IfErr result (λ i. i ≤ length (records self.now)) }
+        ensures absent { IsOrderedByPath (records self.now)
+            → IfErr result (IsPathGap path.now (records self.now)) }
     {
         self.search_path(path).0
     }
@@ -68,7 +75,11 @@ impl State {
     /// compared with that of an entry. For n entries, in any order, that is at most the number of binary digits of n
     /// plus one. If there are entries, it is at least one.
     pub fn search_path(&self, path: &[u8]) -> (Result<usize, usize>, usize)
-        ensures { SearchesPath path.now (records self.now) result }
+        ensures found { IfOk result.0 (IsPathAt path.now (records self.now)) }
+        ensures in_range { IfErr result.0 (λ i. i ≤ length (records self.now)) }
+        ensures absent { IsOrderedByPath (records self.now)
+            → IfErr result.0 (IsPathGap path.now (records self.now)) }
+        ensures count { IsHalving (length (records self.now)) result.1 }
     {
         search::search_path(&self.slice(), path)
     }
@@ -80,7 +91,12 @@ impl State {
     /// This is guaranteed if the entries strictly increase by path, then stage. In any other order the entry at a
     /// returned index still has that path and stage. An error is then at most the number of entries.
     pub fn search_path_and_stage(&self, path: &[u8], stage: Stage) -> (Result<usize, usize>, usize)
-        ensures { SearchesKey path.now (stage_code stage) (records self.now) result }
+        ensures found { IfOk result.0 (IsKeyAt path.now (stage_code stage) (records self.now)) }
+        ensures in_range { IfErr result.0 (λ i. i ≤ length (records self.now)) }
+        ensures answer { IsStrictlyOrdered (records self.now)
+            → result.0 ≡ ok_or (record_index path.now (stage_code stage) (records self.now))
+            (insertion_of path.now (stage_code stage) (records self.now)) }
+        ensures count { IsHalving (length (records self.now)) result.1 }
     {
         search::search_path_and_stage(&self.slice(), path, stage)
     }
@@ -117,7 +133,17 @@ impl State {
         mode: Mode,
         path: &[u8],
     ) -> Result<(), AllocError>
-        ensures { Pushes (record_from_parts path.now stat id flags mode) self.old self.new result }
+        ensures added { OnOk result
+            (AddsEntry self.old self.new (record_from_parts path.now stat id flags mode)) }
+        ensures pushed { OnOk result (PathsInStorage self.old → contents self.new
+            ≡ with_record (contents self.old) (record_from_parts path.now stat id flags mode)) }
+        ensures placed { OnOk result (PathsInStorage self.old → PathsInStorage self.new) }
+        ensures ids { (kind : Kind) → OnOk result (IdsAreOf kind (entries_of self.old)
+            → id_kind id ≡ kind → IdsAreOf kind (entries_of self.new)) }
+        ensures storable { OnOk result (PathsInStorage self.old → IsStorable (contents self.old)
+            → id_kind id ≡ (contents self.old).kind
+            → (4095 ≤ length path.now → All (λ b. b ≢ 0) path.now) → IsStorable (contents self.new)) }
+        ensures err { OnErr result (IsUnchanged self.old self.new) }
     {
         let entry = Pathless {
             stat,

@@ -1,6 +1,13 @@
 //! Applies changes to an index, all or none.
 
-ghost use Rattle.index_state.specs.StateChanges.{Applies};
+ghost use Rattle.std.specs.Prelude.{◌≡◌, All, OnErr, OnOk};
+ghost use Rattle.entry_edit.specs.Changes.{IsAppliedTo};
+ghost use Rattle.entry_edit.specs.EntryEdits.{FirstRejectedCause};
+ghost use Rattle.index_edit.specs.StillStorable.{StagesSized, StaysStorable};
+ghost use Rattle.index_edit.specs.Updates.{updated};
+ghost use Rattle.index_state.specs.Edits.{IsUnchanged};
+ghost use Rattle.index_state.specs.State.{PathsInStorage, contents, records};
+ghost use Rattle.index_state.specs.StateChanges.{WhenOrdered};
 
 use crate::State;
 use entry_edit::change::{ApplyError, Change};
@@ -41,7 +48,16 @@ impl State {
         check: &C,
         changes: &[Change<'_>],
     ) -> Result<(), ApplyError>
-        ensures { Applies (C.refusal check.now) changes.now self.old self.new result }
+        ensures reason { FirstRejectedCause (C.refusal check.now) self.old.parts.object_hash
+            changes.now self.old.parts.path_backing self.old.parts.entries result }
+        ensures updated { OnOk result (WhenOrdered self.old
+            (contents self.new ≡ updated changes.now (contents self.old))) }
+        ensures applied { OnOk result (WhenOrdered self.old
+            (IsAppliedTo changes.now (records self.old) (records self.new))) }
+        ensures storable { OnOk result (WhenOrdered self.old
+            (All StagesSized changes.now → StaysStorable (contents self.old) (contents self.new))) }
+        ensures placed { PathsInStorage self.old → PathsInStorage self.new }
+        ensures err { OnErr result (IsUnchanged self.old self.new) }
     {
         parts::apply(&mut self.parts, check, changes)
     }

@@ -1,6 +1,18 @@
 //! Applies one change to an index.
 
-ghost use Rattle.index_state.specs.StateChanges.{Resolves, Stages, Unstages};
+ghost use Rattle.std.specs.Prelude.{◌≡◌, [], ◌∷◌, IfOk, OnErr, OnOk, count_by};
+ghost use Rattle.entry_edit.specs.Edits.{AreDisplacedCounts, IsResolvedInto, IsStagedInto, IsUnstagedFrom, merged};
+ghost use Rattle.entry_edit.specs.EntryEdits.{StageCause};
+ghost use Rattle.entry_edit.specs.Wholes.{WholeDirectoryCause};
+ghost use Rattle.entry_edit.specs.declared.change.Change.TheVariants.{Stage, Unstage};
+ghost use Rattle.entry_list.specs.Order.{IsStrictlyOrdered};
+ghost use Rattle.entry_list.specs.Record.{with_path};
+ghost use Rattle.entry_lookup.specs.Range.{is_at};
+ghost use Rattle.index_edit.specs.StillStorable.{StaysStorable};
+ghost use Rattle.index_edit.specs.Updates.{updated};
+ghost use Rattle.index_state.specs.Edits.{IsUnchanged};
+ghost use Rattle.index_state.specs.State.{PathsInStorage, contents, records, storage_of};
+ghost use Rattle.index_state.specs.StateChanges.{WhenOrdered};
 
 use crate::State;
 use entry_edit::error::Error;
@@ -33,7 +45,18 @@ impl State {
         entry: Pathless,
         path: &[u8],
     ) -> Result<Displaced, Error>
-        ensures { Stages (C.refusal check.now) entry path.entry self.old self.new result }
+        ensures reason { StageCause (C.refusal check.now) self.old.parts.object_hash entry
+            path.now self.old.parts.path_backing self.old.parts.entries result }
+        ensures updated { OnOk result (WhenOrdered self.old
+            (contents self.new ≡ updated (Stage entry path.entry ∷ []) (contents self.old))) }
+        ensures staged { OnOk result (WhenOrdered self.old (IsStagedInto
+            (with_path path.now entry) (records self.old) (records self.new))) }
+        ensures storable { OnOk result (WhenOrdered self.old
+            (StaysStorable (contents self.old) (contents self.new))) }
+        ensures told { IfOk result (λ told. WhenOrdered self.old
+            (AreDisplacedCounts (with_path path.now entry) (records self.old) told)) }
+        ensures placed { PathsInStorage self.old → PathsInStorage self.new }
+        ensures err { OnErr result (IsUnchanged self.old self.new) }
     {
         parts::stage(&mut self.parts, check, entry, path)
     }
@@ -46,7 +69,18 @@ impl State {
         entry: Pathless,
         path: &[u8],
     ) -> Result<Displaced, Error>
-        ensures { Resolves (C.refusal check.now) entry path.entry self.old self.new result }
+        ensures reason { StageCause (C.refusal check.now) self.old.parts.object_hash (merged entry)
+            path.now self.old.parts.path_backing self.old.parts.entries result }
+        ensures updated { OnOk result (WhenOrdered self.old
+            (contents self.new ≡ updated (Stage (merged entry) path.entry ∷ []) (contents self.old))) }
+        ensures resolved { OnOk result (WhenOrdered self.old (IsResolvedInto
+            (with_path path.now (merged entry)) (records self.old) (records self.new))) }
+        ensures storable { OnOk result (WhenOrdered self.old
+            (StaysStorable (contents self.old) (contents self.new))) }
+        ensures told { IfOk result (λ told. WhenOrdered self.old
+            (AreDisplacedCounts (with_path path.now (merged entry)) (records self.old) told)) }
+        ensures placed { PathsInStorage self.old → PathsInStorage self.new }
+        ensures err { OnErr result (IsUnchanged self.old self.new) }
     {
         parts::resolve(&mut self.parts, check, entry, path)
     }
@@ -65,7 +99,18 @@ impl State {
     ///
     /// After an error the state is unchanged.
     pub fn unstage(&mut self, path: &[u8]) -> Result<usize, Error>
-        ensures { Unstages path.entry self.old self.new result }
+        ensures reason { WholeDirectoryCause path.now (records self.old) result }
+        ensures updated { OnOk result (WhenOrdered self.old
+            (contents self.new ≡ updated (Unstage path.entry ∷ []) (contents self.old))) }
+        ensures unstaged { OnOk result (IsStrictlyOrdered (records self.old)
+            → IsUnstagedFrom path.now (records self.old) (records self.new)) }
+        ensures storable { OnOk result (WhenOrdered self.old
+            (StaysStorable (contents self.old) (contents self.new))) }
+        ensures count { IfOk result (λ count. IsStrictlyOrdered (records self.old)
+            → count ≡ count_by (is_at path.now) (records self.old)) }
+        ensures storage { storage_of self.new ≡ storage_of self.old }
+        ensures placed { PathsInStorage self.old → PathsInStorage self.new }
+        ensures err { OnErr result (IsUnchanged self.old self.new) }
     {
         parts::unstage(&mut self.parts, path)
     }

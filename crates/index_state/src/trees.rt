@@ -5,8 +5,8 @@ ghost use Rattle.ext_tree.specs.Tree.{node_of};
 ghost use Rattle.entry_list.specs.Order.{IsStrictlyOrdered};
 ghost use Rattle.tree_encode.specs.Refusals.{AreFit};
 ghost use Rattle.index_state.specs.Edits.{with_cached_tree};
-ghost use Rattle.index_state.specs.State.{contents, records};
-ghost use Rattle.index_state.specs.StateEdits.{ReplacesTree, Sets};
+ghost use Rattle.index_state.specs.State.{contents, entries_of, records, storage_of};
+ghost use Rattle.index_state.specs.StateEdits.{HasRenewedTree};
 ghost use Rattle.index_state.specs.StateTrees.{HasFewEntries, HasFitEntries, HasRightIds, WriteTreesCause};
 ghost use Rattle.index_state.specs.StateTrees.{TreeIdsErrorCause};
 ghost use Rattle.index_state.specs.StateTrees.{StoresFirst, StoresTrees};
@@ -59,7 +59,9 @@ impl State {
     /// other extensions aren't known to match the entries, an untracked cache and a monitor's answer are removed.
     /// Everything else is unchanged.
     pub fn set_tree(&mut self, tree: Tree)
-        ensures { Sets (with_cached_tree (contents self.old) (node_of tree)) self.old self.new }
+        ensures set { contents self.new ≡ with_cached_tree (contents self.old) (node_of tree) }
+        ensures entries { entries_of self.new ≡ entries_of self.old }
+        ensures storage { storage_of self.new ≡ storage_of self.old }
     {
         if !self.parts.extensions_fit {
             self.parts.extensions.untracked = None;
@@ -74,7 +76,9 @@ impl State {
     /// invalid and has the null id. So the result names no tree that the current cache tree doesn't name. Everything
     /// else is as with [`set_tree`](State::set_tree).
     pub fn renew_tree(&mut self, mut tree: Tree)
-        ensures { ReplacesTree (node_of tree) self.old self.new }
+        ensures set { HasRenewedTree (node_of tree) self.old self.new }
+        ensures entries { entries_of self.new ≡ entries_of self.old }
+        ensures storage { storage_of self.new ≡ storage_of self.old }
     {
         let old = self.parts.extensions.tree.as_ref();
         keep_counts(self.parts.object_hash, &mut tree, old);

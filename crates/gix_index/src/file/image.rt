@@ -1,7 +1,12 @@
 //! Writes a `File`: the state's bytes, followed by their digest.
 
+ghost use Rattle.std.specs.Prelude.{◌≡◌, ◌↔◌, Err, IfOk, OnOk};
+ghost use Rattle.gix_index.specs.File.{state_of};
+ghost use Rattle.gix_index.specs.WrittenFile.{PutsBodyTo, image_of, written_id, written_version};
+ghost use Rattle.index_model.specs.Storable.{IsWritable};
+ghost use Rattle.index_model.specs.Writing.{RefusedWith, Writes};
+ghost use Rattle.index_parts.specs.Taking.{Hashes};
 ghost use Rattle.index_state.specs.State.{contents};
-ghost use Rattle.gix_index.specs.WrittenFile.{PutsBodyTo, PutsFile};
 
 use super::File;
 use entry_list::Version;
@@ -49,8 +54,18 @@ impl File {
         out: &mut W,
         options: Options,
     ) -> Result<(Version, ObjectId), Error>
-        ensures { PutsFile W.taken W.failed W.hashed W.loan out.old out.new result
-            self.now options }
+        ensures version { IfOk result (λ x. x.0 ≡ written_version self.now options) }
+        ensures id { IfOk result (λ x. x.1 ≡ written_id self.now options) }
+        ensures bytes { Writes W.taken W.failed out.old out.new result (image_of self.now options) }
+        ensures too_many { (result ≡ Err Error.TooManyEntries)
+            ↔ RefusedWith (contents (state_of self.now)) options Error.TooManyEntries }
+        ensures nul_in_path { (result ≡ Err Error.NulInPath)
+            ↔ RefusedWith (contents (state_of self.now)) options Error.NulInPath }
+        ensures too_large { (result ≡ Err Error.TooLarge)
+            ↔ RefusedWith (contents (state_of self.now)) options Error.TooLarge }
+        ensures writable { OnOk result (IsWritable (contents (state_of self.now)) options) }
+        ensures hashed { OnOk result (Hashes W.hashed out.old out.new (image_of self.now options)) }
+        ensures loan { W.loan out.new ≡ W.loan out.old }
     {
         let (version, id) = put_body(&self.state, out, options)?;
         out.put(id.as_bytes())?;

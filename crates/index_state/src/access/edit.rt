@@ -7,7 +7,6 @@ ghost use Rattle.entry_fields.specs.Flags.{stage_code};
 ghost use Rattle.entry_lookup.specs.Lookup.{HasKey, record_index};
 ghost use Rattle.index_state.specs.Edits.{LendsEntries, LendsEntryAt, with_time, with_version};
 ghost use Rattle.index_state.specs.State.{contents, entries_of, storage_of};
-ghost use Rattle.index_state.specs.StateEdits.{Sets};
 ghost use Rattle.index_state.specs.StateSearches.{FindsEntry, IsEntryWith};
 
 use crate::State;
@@ -17,7 +16,9 @@ use entry_list::{Entry, PathStorage, PathStorageRef, Version};
 impl State {
     /// Sets the time at which the file was last written. Everything else is unchanged.
     pub fn set_timestamp(&mut self, timestamp: FileTime)
-        ensures { Sets (with_time (contents self.old) timestamp) self.old self.new }
+        ensures set { contents self.new ≡ with_time (contents self.old) timestamp }
+        ensures entries { entries_of self.new ≡ entries_of self.old }
+        ensures storage { storage_of self.new ≡ storage_of self.old }
     {
         self.parts.timestamp = timestamp;
     }
@@ -25,7 +26,9 @@ impl State {
     /// Sets the version, as it is in a file that was just written. Everything else is unchanged. The version of a later
     /// write depends only on the entries.
     pub fn set_version(&mut self, version: Version)
-        ensures { Sets (with_version (contents self.old) version) self.old self.new }
+        ensures set { contents self.new ≡ with_version (contents self.old) version }
+        ensures entries { entries_of self.new ≡ entries_of self.old }
+        ensures storage { storage_of self.new ≡ storage_of self.old }
     {
         self.parts.version = version;
     }

@@ -8,9 +8,8 @@ ghost use Rattle.ext_tree.specs.Tree.{node_of};
 ghost use Rattle.ext_untracked.specs.Untracked.{cache_of};
 ghost use Rattle.index_state.specs.Edits.{LendsTree, without_link, without_resolve_undo, without_tree};
 ghost use Rattle.ext_split.specs.Link.{link_of};
-ghost use Rattle.index_state.specs.State.{contents};
+ghost use Rattle.index_state.specs.State.{contents, entries_of, storage_of};
 ghost use Rattle.index_state.specs.Edits.{undo_of};
-ghost use Rattle.index_state.specs.StateEdits.{TakesExtension};
 
 use crate::State;
 use ext_small::{FsMonitor, resolve_undo};
@@ -39,7 +38,10 @@ impl State {
 
     /// Removes the cache tree and returns it. Everything else is unchanged.
     pub fn remove_tree(&mut self) -> Option<Tree>
-        ensures { TakesExtension (option_map node_of result) (λ o. o.tree) without_tree self.old self.new }
+        ensures given { option_map node_of result ≡ (contents self.old).extensions.tree }
+        ensures removed { contents self.new ≡ without_tree (contents self.old) }
+        ensures entries { entries_of self.new ≡ entries_of self.old }
+        ensures storage { storage_of self.new ≡ storage_of self.old }
     {
         self.parts.extensions.tree.take()
     }
@@ -53,7 +55,10 @@ impl State {
 
     /// Removes the link and returns it. Everything else is unchanged, including whether the extensions match.
     pub fn take_link(&mut self) -> Option<Link>
-        ensures { TakesExtension (option_map link_of result) (λ o. o.link) without_link self.old self.new }
+        ensures given { option_map link_of result ≡ (contents self.old).extensions.link }
+        ensures removed { contents self.new ≡ without_link (contents self.old) }
+        ensures entries { entries_of self.new ≡ entries_of self.old }
+        ensures storage { storage_of self.new ≡ storage_of self.old }
     {
         self.parts.extensions.link.take()
     }
@@ -69,8 +74,10 @@ impl State {
 
     /// Removes the stages of resolved conflicts and returns them. Everything else is unchanged.
     pub fn remove_resolve_undo(&mut self) -> Option<resolve_undo::Paths>
-        ensures { TakesExtension (option_map undo_of result) (λ o. o.resolve_undo) without_resolve_undo
-            self.old self.new }
+        ensures given { option_map undo_of result ≡ (contents self.old).extensions.resolve_undo }
+        ensures removed { contents self.new ≡ without_resolve_undo (contents self.old) }
+        ensures entries { entries_of self.new ≡ entries_of self.old }
+        ensures storage { storage_of self.new ≡ storage_of self.old }
     {
         self.parts.extensions.resolve_undo.take()
     }

@@ -12,10 +12,11 @@ ghost use Rattle.entry_lookup.specs.FilterMap.{IsFilterOf};
 ghost use Rattle.entry_lookup.specs.Folded.{folded_closest, folded_place};
 ghost use Rattle.entry_lookup.specs.Lookup.{IsKeyAt};
 ghost use Rattle.entry_list.specs.Order.{IsOrderedByPath};
-ghost use Rattle.entry_lookup.specs.Range.{FindsRange, HasStageOf, IsPrefixRange, LiesWithin, is_at};
+ghost use Rattle.entry_lookup.specs.Range.{HasStageOf, IsPart, IsPrefixRange, IsRange, LiesWithin, is_at};
 ghost use Rattle.entry_lookup.specs.Range.{place_of_path};
-ghost use Rattle.entry_lookup.specs.Searches.{IsHalving, SearchesDirectory, SearchesFolded};
-ghost use Rattle.entry_lookup.specs.Searches.{SearchesPrefix};
+ghost use Rattle.entry_lookup.specs.Folded.{IsNamed};
+ghost use Rattle.entry_lookup.specs.Lookup.{insertion_of_path};
+ghost use Rattle.entry_lookup.specs.Searches.{IsHalving};
 ghost use Rattle.index_state.specs.State.{entries_of, records, storage_of};
 ghost use Rattle.index_state.specs.StateSearches.{FindsClosest, FindsEntry, FindsPart, FindsPlace, FindsPrefixed};
 ghost use Rattle.index_state.specs.StateSearches.{IsEntryWith, entry_by};
@@ -81,8 +82,9 @@ impl State {
     /// If the paths of the entries never decrease, these are all such indexes, and `None` means that there are none. In
     /// any other order the indexes are only known to be below the number of entries.
     pub fn entry_range(&self, path: &[u8]) -> Option<Range<usize>>
-        ensures { FindsRange (is_at path.now) (IsOrderedByPath (records self.now))
-            (records self.now) result }
+        ensures in_range { IfSome result (IsPart (records self.now)) }
+        ensures exactly { IsOrderedByPath (records self.now)
+            → IsRange (is_at path.now) (records self.now) result }
     {
         range::entry_range(&self.slice(), path)
     }
@@ -122,7 +124,10 @@ impl State {
     /// The start is guaranteed if the paths of the entries never decrease. In any other order it is at most the number
     /// of entries.
     pub fn search_prefix(&self, prefix: &[u8]) -> (usize, usize)
-        ensures { SearchesPrefix prefix.now (records self.now) result }
+        ensures in_range { result.0 ≤ length (records self.now) }
+        ensures place { IsOrderedByPath (records self.now)
+            → result.0 ≡ insertion_of_path prefix.now (records self.now) }
+        ensures count { IsHalving (length (records self.now)) result.1 }
     {
         range::search_prefix(&self.slice(), prefix)
     }
@@ -191,7 +196,8 @@ impl State {
         lookup: &AccelerateLookup<'_>,
     ) -> (Option<usize>, usize)
         requires { lookup.now ≡ records self.now }
-        ensures { SearchesFolded ignore_case path.now (records self.now) result }
+        ensures answer { result.0 ≡ folded_place ignore_case path.now (records self.now) }
+        ensures count { IsHalving (length (records self.now)) result.1 }
     {
         lookup.search_path_icase(path, ignore_case)
     }
@@ -224,7 +230,9 @@ impl State {
         lookup: &AccelerateLookup<'_>,
     ) -> (Option<usize>, usize)
         requires { lookup.now ≡ records self.now }
-        ensures { SearchesDirectory ignore_case directory.now (records self.now) result }
+        ensures answer { result.0 ≡ folded_closest ignore_case directory.now (records self.now) }
+        ensures count { (names : List (List ℕ)) × IsNamed ignore_case (records self.now) names
+            × IsHalving (length names) result.1 }
     {
         lookup.search_directory_icase(directory, ignore_case)
     }

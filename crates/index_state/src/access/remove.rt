@@ -1,11 +1,11 @@
 //! Removes entries from a state.
 
-ghost use Rattle.std.specs.Prelude.{◌≡◌, ◌<◌, length, remove};
+ghost use Rattle.std.specs.Prelude.{◌≡◌, ◌<◌, Some, length, remove, slice_get};
 ghost use Rattle.entry_list.specs.Removed.{ChangesFlagsAlone, LeavesPaths};
 ghost use Rattle.index_state.specs.Edits.{edited};
 ghost use Rattle.index_state.specs.State.{PathsInStorage, contents, entries_of, records, storage_of};
 ghost use Rattle.index_state.specs.State.{KeepsStorable};
-ghost use Rattle.index_state.specs.StateEdits.{FiltersBy, FiltersByPlace, RemovesFrom, TakesOut};
+ghost use Rattle.index_state.specs.StateEdits.{FiltersBy, FiltersByPlace, RemovesFrom};
 
 use crate::State;
 use entry_list::{Entry, remove};
@@ -48,7 +48,12 @@ impl State {
     /// are unchanged.
     pub fn remove_entry_at_index(&mut self, index: usize) -> Entry
         requires { index < length (entries_of self.old) }
-        ensures { TakesOut index self.old self.new result }
+        ensures given { slice_get (entries_of self.old) index ≡ Some result }
+        ensures removed { entries_of self.new ≡ remove (entries_of self.old) index }
+        ensures storage { storage_of self.new ≡ storage_of self.old }
+        ensures others { contents self.new ≡ edited (contents self.old) (records self.new) }
+        ensures placed { PathsInStorage self.old → PathsInStorage self.new }
+        ensures storable { KeepsStorable self.old self.new }
     {
         self.parts.extensions_fit = false;
         self.parts.entries.remove(index)

@@ -1,8 +1,12 @@
 //! Entries whose stat data would be trusted too soon.
 
-ghost use Rattle.std.specs.Prelude.{◌≡◌, map};
-ghost use Rattle.index_state.specs.Racy.{smudged_entry, smudged_stat};
-ghost use Rattle.index_state.specs.StateEdits.{Smudges};
+ghost use Rattle.std.specs.Prelude.{◌≡◌, All, map};
+ghost use Rattle.entry_fields.specs.declared.entry.stat.FileTime.{FileTime};
+ghost use Rattle.entry_list.specs.Record.{IdsAreOf};
+ghost use Rattle.index_parts.specs.declared.hash.Kind.{Kind};
+ghost use Rattle.index_state.specs.Edits.{with_records};
+ghost use Rattle.index_state.specs.Racy.{MayBeTrusted, smudged, smudged_entry, smudged_stat};
+ghost use Rattle.index_state.specs.State.{KeepsStorable, PathsInStorage, contents, entries_of, records, storage_of};
 
 use crate::State;
 use entry_fields::entry::{FileTime, Mode, Stat};
@@ -36,7 +40,15 @@ impl State {
     /// If `time` is the time of the index that was read, the entries may be written as an index of any later time. Each
     /// stat that git trusts then was trusted in the index that was read.
     pub fn smudge_racy(&mut self, time: FileTime)
-        ensures { Smudges time self.old self.new }
+        ensures smudged { contents self.new
+            ≡ with_records (contents self.old) (map (smudged time) (records self.old)) }
+        ensures trusted { (later : FileTime) → All (λ r. MayBeTrusted later (smudged time r)
+            → MayBeTrusted time r) (records self.old) }
+        ensures storage { storage_of self.new ≡ storage_of self.old }
+        ensures placed { PathsInStorage self.old → PathsInStorage self.new }
+        ensures ids { (kind : Kind) → IdsAreOf kind (entries_of self.old)
+            → IdsAreOf kind (entries_of self.new) }
+        ensures storable { KeepsStorable self.old self.new }
     {
         smudge(&mut self.parts.entries, time);
     }

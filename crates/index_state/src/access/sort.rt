@@ -1,9 +1,11 @@
 //! Sorts the entries of a state.
 
-ghost use Rattle.std.specs.Prelude.{◌↔◌, false, IsTrue};
-ghost use Rattle.entry_list.specs.Order.{IsStrictlyOrdered};
-ghost use Rattle.index_state.specs.State.{records};
-ghost use Rattle.index_state.specs.StateEdits.{Sorts, SortsBy};
+ghost use Rattle.std.specs.List.Sorted.{IsPermutation, IsStable};
+ghost use Rattle.std.specs.Prelude.{◌≡◌, ◌↔◌, false, IsOk, IsTrue, OnErr, OnOk};
+ghost use Rattle.entry_list.specs.Order.{IsStrictlyOrdered, record_cmp};
+ghost use Rattle.entry_list.specs.Sorted.{IsOrdered, TiesFollow};
+ghost use Rattle.index_state.specs.Edits.{IsUnchanged, edited, refit};
+ghost use Rattle.index_state.specs.State.{KeepsStorable, PathsInStorage, contents, entries_of, records, storage_of};
 
 use crate::State;
 use entry_list::{Entry, sort};
@@ -19,7 +21,21 @@ impl State {
     ///
     /// The error is an allocation failure. The state is then unchanged.
     pub fn sort_entries(&mut self) -> Result<(), AllocError>
-        ensures { Sorts self.old self.new result }
+        ensures permutation { IsPermutation (records self.old) (records self.new) }
+        ensures ordered { OnOk result (IsOrdered (records self.new)) }
+        ensures stable { IsStable record_cmp (records self.old) (records self.new) }
+        ensures no_memory { IsOrdered (records self.old) → IsOk result }
+        ensures unmoved { IsOrdered (records self.old) → entries_of self.new ≡ entries_of self.old }
+        ensures storage { storage_of self.new ≡ storage_of self.old }
+        ensures others { contents self.new
+            ≡ refit (contents self.old) (records self.new) (contents self.new).fit }
+        ensures fit { IsStrictlyOrdered (records self.old)
+            → (contents self.new).fit ≡ (contents self.old).fit }
+        ensures unfit { OnOk result ((IsStrictlyOrdered (records self.old) → ⊥)
+            → (contents self.new).fit ≡ false) }
+        ensures placed { PathsInStorage self.old → PathsInStorage self.new }
+        ensures storable { KeepsStorable self.old self.new }
+        ensures err { OnErr result (IsUnchanged self.old self.new) }
     {
         let in_order = self.is_in_order();
         sort::sort(&mut self.parts.entries, &self.parts.path_backing)?;
@@ -45,7 +61,16 @@ impl State {
         compare: F,
     ) -> Result<(), AllocError>
         requires { F.IsAlwaysCallable compare }
-        ensures { SortsBy F.FnMut compare self.old self.new result }
+        ensures permutation { IsPermutation (records self.old) (records self.new) }
+        ensures ordered { OnOk result (IsOrdered (records self.new)) }
+        ensures ties { OnOk result (TiesFollow F.FnMut compare (storage_of self.old)
+            (entries_of self.old) (entries_of self.new)) }
+        ensures storage { storage_of self.new ≡ storage_of self.old }
+        ensures others { OnOk result (contents self.new
+            ≡ edited (contents self.old) (records self.new)) }
+        ensures placed { PathsInStorage self.old → PathsInStorage self.new }
+        ensures storable { KeepsStorable self.old self.new }
+        ensures err { OnErr result (IsUnchanged self.old self.new) }
     {
         sort::sort_by(&mut self.parts.entries, &self.parts.path_backing, compare)?;
         self.parts.extensions_fit = false;

@@ -1,8 +1,8 @@
 //! Takes out the storage of paths, and puts one in.
 
 ghost use Rattle.std.specs.Prelude.{◌≡◌, []};
-ghost use Rattle.index_state.specs.State.{storage_of};
-ghost use Rattle.index_state.specs.StateEdits.{HasStorage};
+ghost use Rattle.index_state.specs.Edits.{with_records};
+ghost use Rattle.index_state.specs.State.{contents, entries_of, records, storage_of};
 
 use crate::State;
 use entry_list::PathStorage;
@@ -14,7 +14,9 @@ impl State {
     /// [`return_path_backing`](State::return_path_backing).
     pub fn take_path_backing(&mut self) -> PathStorage
         ensures given { result.items ≡ storage_of self.old }
-        ensures emptied { HasStorage [] self.old self.new }
+        ensures emptied { storage_of self.new ≡ [] }
+        ensures entries { entries_of self.new ≡ entries_of self.old }
+        ensures others { contents self.new ≡ with_records (contents self.old) (records self.new) }
     {
         let alloc = *self.parts.path_backing.allocator();
         std::mem::replace(&mut self.parts.path_backing, Vec::new(alloc))
@@ -24,7 +26,9 @@ impl State {
     /// they have their former paths.
     pub fn return_path_backing(&mut self, backing: PathStorage)
         requires { storage_of self.old ≡ [] }
-        ensures { HasStorage backing.items self.old self.new }
+        ensures stored { storage_of self.new ≡ backing.items }
+        ensures entries { entries_of self.new ≡ entries_of self.old }
+        ensures others { contents self.new ≡ with_records (contents self.old) (records self.new) }
     {
         self.parts.path_backing = backing;
     }

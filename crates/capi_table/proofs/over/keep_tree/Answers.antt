@@ -3,7 +3,7 @@ use Rattle.std.specs.Option.{option_map}
 use Rattle.gix_index.specs.State.{contents}
 use Rattle.gix_index.specs.Tree.{node_of}
 use Rattle.capi_table.specs.declared.over.CachedTree.TheVariants.{Absent}
-use Rattle.capi_table.proofs.Trees.{keeps_by, keeps_right, keeps_wrong}
+use Rattle.capi_table.proofs.KeptTrees.{keeps_by, keeps_right, keeps_wrong}
 use Rattle.capi_table.proofs.over.keep_tree.Goals as goal
 
 pub returns-in_default : goal.returns-in_default
