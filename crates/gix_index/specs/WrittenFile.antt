@@ -1,7 +1,7 @@
 -- The result and the writer (`std::io::Write`) after an index was written with its digest (gitformat-index, "Hash
 -- checksum").
-use Rattle.std.specs.Prelude.{◌≡◌, ◌↔◌, ◌++◌, ℕ, Bool, true, List, [], Option, Some, None, Result, Err, IfErr, IfOk}
-use Rattle.std.specs.Prelude.{OnErr, OnOk, codes}
+use Rattle.std.specs.Prelude.{◌≡◌, ◌↔◌, ℕ, Bool, true, List, [], Option, Some, None, Result, Err, IfErr, IfOk}
+use Rattle.std.specs.Prelude.{OnErr, OnOk}
 use Rattle.std.specs.Io.KnownBytes.{Appends}
 use Rattle.std.specs.Global.{Global}
 use Rattle.std.specs.Path.{path_buf_bytes}
@@ -9,16 +9,14 @@ use Rattle.std.specs.declared.path.buf.PathBuf.{PathBuf}
 use Rattle.std.specs.Prelude.{if◌then◌else◌}
 use Rattle.index_parts.specs.Taking.{Hashes}
 use Rattle.index_parts.specs.declared.hash.Kind.{Kind}
-use Rattle.index_parts.specs.declared.hash.io.Out.{Ghosts as OutGhosts}
 use Rattle.file_place.specs.Locks.{IsReleased, asked_of, lock_of, target_of}
-use Rattle.file_place.specs.World.{World}
 use Rattle.file_place.specs.declared.folder.Folder.{Ghosts}
 use Rattle.file_place.specs.declared.lock.Lock.{Lock}
 use Rattle.file_place.specs.declared.lock.Place.{Place}
-use Rattle.file_errors.specs.WriteFaults.{CommitIndexCause, WriteCause}
+use Rattle.file_errors.specs.WriteFaults.{CommitIndexCause}
 use Rattle.file_errors.specs.declared.write.Error.{Error as WriteFault}
 use Rattle.index_model.specs.Storable.{IsWritable}
-use Rattle.gix_index.specs.InPlace.{IsPut, IsPutSince, LeavesLock}
+use Rattle.gix_index.specs.InPlace.{IsPutSince}
 use Rattle.index_parts.specs.Id.{make_id}
 use Rattle.index_parts.specs.declared.hash.ObjectId.{ObjectId}
 use Rattle.entry_list.specs.declared.Version.{Version}
@@ -66,14 +64,9 @@ written_id f options = make_id (contents (state_of f)).kind (trailer (contents (
 abbrev pub image_of : File → Options → List ℕ
 image_of f options = image (contents (state_of f)) options
 
--- if nothing else writes there, the file is at its path, and its lock is gone
-abbrev pub Stores : Bool → World → World → File → Options → Type 0
-Stores alone old new f options =
-    alone ≡ true → IsPut old new (path_of f ++ codes ".lock") (path_of f) (contents (state_of f)) options
-
--- why a file isn't written to its path, or by a lock that was made before
-abbrev pub FileWriteCause : Bool → World → File → Options → WriteFault → Type 0
-FileWriteCause works world f options e = WriteCause works world (path_of f) (contents (state_of f)) options e
+-- why a file isn't written by a lock that was made before
+abbrev pub CommitFileCause : Bool → Place → File → Options → WriteFault → Type 0
+CommitFileCause works place f options e = CommitIndexCause works place (contents (state_of f)) options e
 
 abbrev pub CommitFileCause : Bool → Place → File → Options → WriteFault → Type 0
 CommitFileCause works place f options e = CommitIndexCause works place (contents (state_of f)) options e
@@ -98,30 +91,9 @@ IsWritten old new options = IsWrittenTo (path_of old) old new options
 -- ---- the results of the calls that write an index to the disk, by everything that is known of the writer or of the
 -- folder
 
--- the result of writing everything except the trailer of a value to a writer
-abbrev pub PutsBodyTo : {S : Type 0} → OutGhosts S → S → S → Result (Version × ObjectId) Error → Contents → Options
-    → Type 0
-PutsBodyTo w old new r v options = PutsBody w.taken w.failed w.hashed w.loan old new r v options
-
 -- all bytes of a file went to this writer
 abbrev pub HoldsImage : {W : Type 0} → (W → Option (List ℕ)) → W → File → Options → Filled W → Type 0
 HoldsImage bytes_of writer f options x = Appends (bytes_of writer) (bytes_of x.file) (image_of f options)
-
--- ---- by a lock that is made to write the index to its path
-
--- if nothing else writes there, the file is at its path
-abbrev pub StoresIn : {D F M : Type 0} → Ghosts D F M → D → D → File → Options → Type 0
-StoresIn folder old new f options = Stores (folder.alone old) (folder.known old) (folder.known new) f options
-
--- If nothing else writes there, everything is unchanged. If the folder doesn't work, the lock may exist.
-abbrev pub LeavesLockOf : {D F M : Type 0} → Ghosts D F M → D → D → File → Type 0
-LeavesLockOf folder old new f =
-    folder.alone old ≡ true
-    → LeavesLock (folder.works old) (folder.known old) (folder.known new) (path_of f ++ codes ".lock")
-
--- why the file isn't written to its path
-abbrev pub FolderWriteCause : {D F M : Type 0} → Ghosts D F M → D → File → Options → WriteFault → Type 0
-FolderWriteCause folder old f options e = FileWriteCause (folder.works old) (folder.known old) f options e
 
 -- ---- by a lock that was made before
 

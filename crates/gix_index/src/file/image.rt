@@ -2,7 +2,7 @@
 
 ghost use Rattle.std.specs.Prelude.{◌≡◌, ◌↔◌, Err, IfOk, OnOk};
 ghost use Rattle.gix_index.specs.File.{state_of};
-ghost use Rattle.gix_index.specs.WrittenFile.{PutsBodyTo, image_of, written_id, written_version};
+ghost use Rattle.gix_index.specs.WrittenFile.{PutsBody, image_of, written_id, written_version};
 ghost use Rattle.index_model.specs.Storable.{IsWritable};
 ghost use Rattle.index_model.specs.Writing.{RefusedWith, Writes};
 ghost use Rattle.index_parts.specs.Taking.{Hashes};
@@ -22,7 +22,8 @@ fn put_body<W: Out>(
     out: &mut W,
     options: Options,
 ) -> Result<(Version, ObjectId), Error>
-    ensures { PutsBodyTo W.Out out.old out.new result (contents state.now) options }
+    ensures { PutsBody W.taken W.failed W.hashed W.loan out.old out.new result
+        (contents state.now) options }
 {
     let kind = state.object_hash();
     if options.skip_hash {

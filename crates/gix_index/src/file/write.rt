@@ -1,14 +1,15 @@
 //! Writes a `File` to its path by means of a lock file.
 
-ghost use Rattle.std.specs.Prelude.{◌≡◌, Some, IfErr, IfOk, OnErr, OnOk};
-ghost use Rattle.file_errors.specs.WriteFaults.{WriteErrorCause};
+ghost use Rattle.std.specs.Prelude.{◌≡◌, ◌++◌, Some, codes, false, true, IfErr, IfOk, OnErr, OnOk};
+ghost use Rattle.file_errors.specs.WriteFaults.{WriteCause, WriteErrorCause};
 ghost use Rattle.index_model.specs.Storable.{IsWritable};
 ghost use Rattle.index_state.specs.State.{contents};
-ghost use Rattle.gix_index.specs.File.{state_of};
-ghost use Rattle.gix_index.specs.OnSystem.{SystemWriteCause};
+ghost use Rattle.gix_index.specs.File.{path_of, state_of};
+ghost use Rattle.gix_index.specs.InPlace.{IsPut, LeavesLock};
+ghost use Rattle.gix_index.specs.OnSystem.{system_world};
 ghost use Rattle.gix_index.specs.WrittenFile.{IsWritten};
 ghost use Rattle.gix_index.specs.WrittenFile.{written_id, written_version};
-ghost use Rattle.gix_index.specs.WrittenFile.{HoldsImage, LeavesLockOf, Saves, FolderWriteCause, StoresIn};
+ghost use Rattle.gix_index.specs.WrittenFile.{HoldsImage, Saves};
 
 use super::File;
 use entry_list::Version;
@@ -103,10 +104,14 @@ impl File {
         ensures version { IfOk result (λ x. x.0 ≡ written_version self.now options) }
         ensures id { IfOk result (λ x. x.1 ≡ written_id self.now options) }
         ensures writable { OnOk result (IsWritable (contents (state_of self.now)) options) }
-        ensures put { OnOk result (StoresIn D.Folder folder.old folder.new self.now options) }
-        ensures left { OnErr result (LeavesLockOf D.Folder folder.old folder.new self.now) }
+        ensures put { OnOk result (D.alone folder.old ≡ true
+            → IsPut (D.known folder.old) (D.known folder.new) (path_of self.now ++ codes ".lock")
+            (path_of self.now) (contents (state_of self.now)) options) }
+        ensures left { OnErr result (D.alone folder.old ≡ true → LeavesLock (D.works folder.old)
+            (D.known folder.old) (D.known folder.new) (path_of self.now ++ codes ".lock")) }
         ensures fault { IfErr result
-            (FolderWriteCause D.Folder folder.old self.now options) }
+            (WriteCause (D.works folder.old) (D.known folder.old) (path_of self.now)
+            (contents (state_of self.now)) options) }
     {
         let lock = lock_path(alloc, &self.path)?;
         let path = self.path.clone()?;
@@ -150,7 +155,8 @@ impl File {
         ensures ok { OnOk result (IsWritten self.old self.new options) }
         ensures err { OnErr result (self.new ≡ self.old) }
         ensures writable { OnOk result (IsWritable (contents (state_of self.old)) options) }
-        ensures fault { IfErr result (SystemWriteCause self.old options) }
+        ensures fault { IfErr result (WriteCause false system_world (path_of self.old)
+            (contents (state_of self.old)) options) }
     {
         let mut folder = System { rt };
         self.write_in(&mut folder, alloc, options)
@@ -166,10 +172,14 @@ impl File {
         ensures ok { OnOk result (IsWritten self.old self.new options) }
         ensures err { OnErr result (self.new ≡ self.old) }
         ensures writable { OnOk result (IsWritable (contents (state_of self.old)) options) }
-        ensures put { OnOk result (StoresIn D.Folder folder.old folder.new self.old options) }
-        ensures left { OnErr result (LeavesLockOf D.Folder folder.old folder.new self.old) }
+        ensures put { OnOk result (D.alone folder.old ≡ true
+            → IsPut (D.known folder.old) (D.known folder.new) (path_of self.old ++ codes ".lock")
+            (path_of self.old) (contents (state_of self.old)) options) }
+        ensures left { OnErr result (D.alone folder.old ≡ true → LeavesLock (D.works folder.old)
+            (D.known folder.old) (D.known folder.new) (path_of self.old ++ codes ".lock")) }
         ensures fault { IfErr result
-            (FolderWriteCause D.Folder folder.old self.old options) }
+            (WriteCause (D.works folder.old) (D.known folder.old) (path_of self.old)
+            (contents (state_of self.old)) options) }
     {
         let (version, id) = self.replace(folder, alloc, options)?;
         self.state.set_version(version);
