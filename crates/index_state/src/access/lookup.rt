@@ -3,7 +3,7 @@
 ghost use Rattle.std.specs.Bool.{OnTrue};
 ghost use Rattle.std.specs.List.{list_any};
 ghost use Rattle.std.specs.Option.{option_copied};
-ghost use Rattle.std.specs.Prelude.{◌≡◌, ◌↔◌, ◌≤◌, Option, length, take, is_some};
+ghost use Rattle.std.specs.Prelude.{◌≡◌, ◌↔◌, ◌≤◌, ℕ, List, Option, length, take, is_some};
 ghost use Rattle.std.specs.Prelude.{true, IfOk, IfSome, IsTrue};
 ghost use Rattle.std.specs.declared.ops.Range.{Range};
 ghost use Rattle.entry_fields.specs.Flags.{stage_code};
