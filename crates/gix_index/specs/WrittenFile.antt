@@ -68,9 +68,6 @@ image_of f options = image (contents (state_of f)) options
 abbrev pub CommitFileCause : Bool → Place → File → Options → WriteFault → Type 0
 CommitFileCause works place f options e = CommitIndexCause works place (contents (state_of f)) options e
 
-abbrev pub CommitFileCause : Bool → Place → File → Options → WriteFault → Type 0
-CommitFileCause works place f options e = CommitIndexCause works place (contents (state_of f)) options e
-
 -- A file that was written to a path, which becomes its path. Version and checksum are those that were written; the
 -- checksum is None if zeros were written. Everything else is unchanged.
 pub record IsWrittenTo (to : List ℕ) (old new : File) (options : Options) : Type 0 where
