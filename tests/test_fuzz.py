@@ -10,6 +10,7 @@ alone.
 """
 import pathlib
 import re
+import resource
 import shutil
 import subprocess
 import tempfile
@@ -24,6 +25,13 @@ FLAGS = ("-std=c11", "-O1", "-g", "-Wall", "-Wextra", "-Werror", "-fsanitize=fuz
 IS_SHA256, IS_VERSION_4, IS_TRAILER_KEPT, IS_SPLIT = 1, 2, 4, 8
 # An input that is longer tells little more, and takes longer.
 MOST_BYTES = 1 << 14
+# The megabytes that the target may have.
+MOST_MEMORY = 2048
+
+
+def memory_limit():
+    """The limit for libFuzzer in megabytes. Linux counts the peak of the process that starts a program to it too."""
+    return MOST_MEMORY + (resource.getrusage(resource.RUSAGE_SELF).ru_maxrss >> 10)
 
 
 def target(room):
@@ -98,7 +106,7 @@ class Fuzz(Case):
         seconds, jobs, corpus = setting("seconds", 4), setting("jobs", 1), setting("corpus", "")
         kept = pathlib.Path(corpus or tempfile.mkdtemp(prefix="fuzz-found-")).resolve()
         kept.mkdir(parents=True, exist_ok=True)
-        words = (f"-max_len={MOST_BYTES}", f"-max_total_time={seconds}", "-timeout=20", "-rss_limit_mb=2048")
+        words = (f"-max_len={MOST_BYTES}", f"-max_total_time={seconds}", "-timeout=20", f"-rss_limit_mb={memory_limit()}")
         words += ("-print_final_stats=1", "-len_control=0", "-seed=1", f"-artifact_prefix={kept}/")
         words += (f"-fork={jobs}",) if jobs > 1 else ()
         words += (kept,) if corpus else ()
