@@ -1,13 +1,9 @@
 //! Tables in a caller's memory: the entries of an index as rows, and the bytes with their paths.
 //!
 //! An index is read into a table, with or without the shared index that it links to. A table is written as an index,
-//! with or without what is preserved of the index that it replaces. Or its rows are changes of an index. Calls keep no
-//! state. They take and return values; `index_c` has the numbers for callers in C.
-//!
-//! The trees of a table in a caller's memory: the objects that git writes for its rows. The caller's rooms receive the
-//! id and the bytes of each.
-//!
-//! Calls take and return values, as those of `capi_table` do. `index_c` offers them to callers in C, by numbers.
+//! with or without what is preserved of the index that it replaces. Or its rows are changes of an index. The tree
+//! objects that git writes for the rows are put into the caller's memory. Calls keep no state. They take and return
+//! values; `index_c` has the numbers for callers in C.
 #![tactic(auto)]
 
 mod blame;

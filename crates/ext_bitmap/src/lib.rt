@@ -1,6 +1,5 @@
-//! Bitmaps of the extensions of an index file.
-//!
-//! Writes bitmaps in their compressed form (git's bitmap-format document, "Serialization format for an EWAH bitmap").
+//! Reads and writes the bitmaps of extensions (git's bitmap-format document, "Serialization format for an EWAH
+//! bitmap").
 //!
 //! A bitmap that was read is written in its own words. A bitmap that is made of bits is written in the words of git's
 //! encoder.

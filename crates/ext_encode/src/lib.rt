@@ -1,5 +1,5 @@
-//! Writes the extensions that are read from a file and preserved: resolve-undo, the untracked cache and the file system
-//! monitor (gitformat-index, "Extensions").
+//! Writes extensions: resolve-undo, the untracked cache and the file system monitor as they were read, and all
+//! extensions in git's order, followed by the end marker (gitformat-index, "Extensions").
 #![tactic(auto)]
 
 pub mod chosen;

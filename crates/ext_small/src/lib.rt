@@ -1,4 +1,5 @@
-//! Decodes the small extensions: resolve-undo, file system monitor and offset table (gitformat-index, "Extensions").
+//! Decodes the small extensions: resolve-undo, file system monitor, offset table and end marker (gitformat-index,
+//! "Extensions").
 #![tactic(auto)]
 
 pub mod fs_monitor;

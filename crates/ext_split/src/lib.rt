@@ -1,6 +1,5 @@
-//! Decodes the link of a split index to its shared index (gitformat-index, "Split index").
-//!
-//! Merges a split index's entries into those of its shared index (gitformat-index, "Split index").
+//! Decodes the link of a split index to its shared index, and merges the entries of both (gitformat-index, "Split
+//! index").
 #![tactic(auto)]
 
 pub mod link;

@@ -1,5 +1,5 @@
-//! Reads, checks and writes the cache tree extension (TREE), which has the tree objects of an index's directories
-//! (gitformat-index, "Cache tree").
+//! Reads, checks, invalidates and writes the cache tree extension (TREE), which has the tree objects of an index's
+//! directories (gitformat-index, "Cache tree").
 #![tactic(auto)]
 
 ghost use Rattle.std.specs.Prelude.{◌≡◌, IfOk, IfErr};

@@ -1,7 +1,5 @@
-//! Files by path: errors, content, times, and the lock under which a file is replaced.
-//!
-//! An in-memory file system in which each step can be made to fail. It is for tests of code that reads, locks and
-//! replaces files.
+//! Files by path: errors, content, times, and the lock under which a file is replaced. Also files in memory whose calls
+//! can be made to fail, for tests.
 #![tactic(auto)]
 
 pub mod fault;

@@ -1,8 +1,5 @@
-//! Changes of a git index that update the extensions about its entries: the cache tree, resolve-undo and the untracked
-//! cache.
-//!
-//! The answer of a file system monitor about the entries of an index, after changes of them (gitformat-index, "File
-//! System Monitor cache").
+//! Changes of a git index that update the extensions about its entries: the cache tree, resolve-undo, the untracked
+//! cache and the answer of a file system monitor (gitformat-index, "Extensions").
 #![tactic(auto)]
 
 pub mod dirty;

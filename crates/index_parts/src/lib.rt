@@ -1,6 +1,4 @@
-//! The parts of a git index file's encoding: numbers, object ids and digests.
-//!
-//! Objects of an object store: trees with the modes of their entries, and the check of names in them.
+//! The basic parts of a git index file: numbers, object ids, digests, and tree objects with the modes of their entries.
 #![tactic(auto)]
 
 pub mod block;

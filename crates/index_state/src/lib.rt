@@ -1,4 +1,4 @@
-//! The state of a git index in memory: its entries, and how they are read.
+//! The state of a git index in memory: its entries and extensions, and everything of an index except its entries.
 #![tactic(auto)]
 
 ghost use Rattle.std.specs.Prelude.{◌≡◌, ◌↔◌, ◌<◌, length, slice_get, IsTrue};

@@ -1,6 +1,4 @@
-//! The map of a file: its parts, and a line for each part.
-//!
-//! A picture to scale of the content of a git index file, as SVG for a browser.
+//! The parts of a file: a line for each part, or a picture to scale as SVG.
 //!
 //! [`write_svg`] draws the parts of a file, as `view_salvage` finds them: a bar of boxes, a legend, and a list. It
 //! draws a small file part by part, and a large one by groups of parts.
