@@ -26,8 +26,9 @@ from tests.common import BUILT
 SOURCES = ("scripts", "numbers", "rows")
 CHECK = (*SOURCES, "commands", "first", "examples", "refused")
 OTHERS = (
-    "versions", "kept", "trees", "staged", "update", "saved", "found", "howto", "readme", "kill", "live", "tasks",
-    "python", "windows", "digests", "maps", "pictures", "json", "headers", "files", "linked", "called", "fuzz", "worst",
+    "versions", "kept", "trees", "staged", "update", "saved", "found", "howto", "readme", "dist", "kill", "live",
+    "tasks", "python", "windows", "digests", "maps", "pictures", "json", "headers", "files", "linked", "called", "fuzz",
+    "worst",
 )
 GROUPS = {"sources": SOURCES, "check": CHECK, "ci": CHECK + OTHERS}
 
