@@ -2,8 +2,8 @@
 /* The git index for C. Calls read the bytes of an index file into a table of its entries. They write a table as an
  * index or as tree objects. They change an index; each change is a row of such a table.
  *
- * Link libgix_index.so or libgix_index.a, as gix_index.pc describes. Both use malloc, realloc and free of the C
- * library.
+ * gix_index.pc links libgix_index.so. For libgix_index.a, pass -l:libgix_index.a in place of -lgix_index. Both use
+ * malloc, realloc and free of the C library.
  *
  * Memory. All memory that a call reads or writes is owned by the caller. A pointer has a length that counts elements of
  * its type. It has to be valid for all of them during the call, and aligned as its type requires. With a length of 0 it
@@ -14,8 +14,12 @@
  * Threads. Calls share nothing. Any number of them may run at the same time on memory of their own, and may read the
  * same memory. No call may be made in a signal handler, or in a child that a process with threads has forked.
  *
- * A bool is 0 or 1. Ids are bytes, not base 16. Paths are bytes with slashes and without a NUL at their end. The
- * standard is git's document gitformat-index. The language is C since C99, or C++ since C++98. */
+ * A bool is 0 or 1. Ids are bytes, not base 16. `git rev-parse --show-object-format` prints the kind of a repository's
+ * ids. Paths are bytes without a NUL at their end. They start at the top of the work tree: src/main.c, and not
+ * /src/main.c or ./src/main.c. The library stores no objects. `git commit` needs the object of each id, and `git
+ * hash-object -w` stores it.
+ *
+ * The standard is git's document gitformat-index. The language is C since C99, or C++ since C++98. */
 #ifndef GIX_INDEX_H
 #define GIX_INDEX_H
 
@@ -41,12 +45,11 @@ extern "C" {
 /* ---- Statuses: what a call answers */
 
 #define GIX_INDEX_DONE 0u         /* it did what it says */
-#define GIX_INDEX_REFUSED 1u      /* the bytes are no index of this kind, are damaged, or fail the check; or a file
-                                   * can't hold the table: the fault says why */
+#define GIX_INDEX_REFUSED 1u      /* the bytes of an index, or the rows, are rejected; the fault is the reason */
 #define GIX_INDEX_MEMORY 2u       /* malloc or realloc gave nothing */
-#define GIX_INDEX_NO_ROOM 3u      /* the caller's room doesn't suffice: how much it takes is told */
-#define GIX_INDEX_WRONG_NUMBER 4u /* a number that was passed is none of those that the call takes */
-#define GIX_INDEX_NONE 5u         /* nothing in the table is what was asked for */
+#define GIX_INDEX_NO_ROOM 3u      /* the caller's memory is too small; the call returns the sizes it needs */
+#define GIX_INDEX_WRONG_NUMBER 4u /* the kind or the version that was passed is invalid */
+#define GIX_INDEX_NONE 5u         /* gix_index_find_prefix alone: no path begins with the prefix */
 
 /* ---- Kinds of ids */
 
@@ -67,47 +70,48 @@ extern "C" {
 #define GIX_INDEX_COMMIT 0160000u /* a submodule */
 
 #define GIX_INDEX_STAGE_MASK 0x3000u
-#define GIX_INDEX_EXTENDED 0x4000u     /* the file has a second word of flags of the entry */
+#define GIX_INDEX_EXTENDED 0x4000u     /* the entry has a second word of flags in the file; without this bit the flags
+                                        * INTENT_TO_ADD and SKIP_WORKTREE below are lost */
 #define GIX_INDEX_ASSUME_VALID 0x8000u
-#define GIX_INDEX_REMOVE 0x20000u /* in memory alone: calls that write pass over the row, gix_index_update takes its
-                                   * path out */
+#define GIX_INDEX_REMOVE 0x20000u /* not stored: calls that write skip the row, and gix_index_update removes its path
+                                   * from the index */
 #define GIX_INDEX_INTENT_TO_ADD 0x20000000u
 #define GIX_INDEX_SKIP_WORKTREE 0x40000000u
 
 /* ---- What becomes of the cached tree of an index that is written over */
 
 #define GIX_INDEX_NO_TREE 0u       /* there is none */
-#define GIX_INDEX_TREE_KEPT 1u     /* it tells what the rows give, and is kept */
-#define GIX_INDEX_TREE_LEFT_OUT 2u /* it doesn't, and is left out */
+#define GIX_INDEX_TREE_KEPT 1u     /* it matches the rows, and is kept */
+#define GIX_INDEX_TREE_LEFT_OUT 2u /* it doesn't match the rows, and is left out */
 
 /* ---- Faults: what is told with GIX_INDEX_REFUSED */
 
 #define GIX_INDEX_FAULT_HEADER 1u    /* no header of an index, or it declares more entries than the bytes can hold */
 #define GIX_INDEX_FAULT_VERSION 2u   /* the version isn't 2, 3 or 4 */
-#define GIX_INDEX_FAULT_LIMIT 3u     /* a limit on memory is passed: no call of these has one */
+#define GIX_INDEX_FAULT_LIMIT 3u     /* not returned: these calls have no limit on memory */
 #define GIX_INDEX_FAULT_ENTRY 4u     /* an entry can't be read: the place is its number, from 0 on */
 #define GIX_INDEX_FAULT_EXTENSION 5u /* a mandatory extension isn't understood */
-#define GIX_INDEX_FAULT_LINK 6u      /* the link to a shared index is at fault */
-#define GIX_INDEX_FAULT_TRAILER 7u   /* the bytes behind all entries and extensions aren't as many as the trailer has */
-#define GIX_INDEX_FAULT_DIGEST 8u    /* the digest isn't the trailer: damaged, of the other kind, or no index */
-/* (9 is an error of files; no call of this header opens one) */
+#define GIX_INDEX_FAULT_LINK 6u      /* the link is damaged, or doesn't match the shared index */
+#define GIX_INDEX_FAULT_TRAILER 7u   /* what follows the entries and extensions isn't as long as the trailer */
+#define GIX_INDEX_FAULT_DIGEST 8u    /* the digest isn't the trailer: try the other kind, or the file is damaged */
+/* (9 isn't used) */
 #define GIX_INDEX_FAULT_ORDER 10u       /* calls that check, write, update or give trees: the entry at the place isn't
                                          * above the one before it */
 #define GIX_INDEX_FAULT_CACHED_TREE 11u /* calls that check alone: the cached tree doesn't hold together, or counts more
                                          * entries than there are */
-#define GIX_INDEX_FAULT_ROW 12u         /* calls that write, update or give trees: the row at the place can't stand in a
-                                         * file, or in a tree, and its mode is one of git's */
-#define GIX_INDEX_FAULT_COUNT 13u       /* calls that write or update: there are more entries than 4294967295; and
-                                         * gix_index_trees: than 2147483647 */
+#define GIX_INDEX_FAULT_ROW 12u         /* calls that write, update or give trees: the row at the place doesn't meet a
+                                         * condition of the call; its mode is one of git's */
+#define GIX_INDEX_FAULT_COUNT 13u       /* calls that write or update: more than 4294967295 entries; gix_index_trees:
+                                         * more than 2147483647 */
 #define GIX_INDEX_FAULT_LENGTH 14u      /* calls that write or update: the file would have more bytes than 4294967295 */
 #define GIX_INDEX_FAULT_MODE 15u        /* calls that write, update or give trees: the mode of the row at the place is
                                          * none of git's */
-#define GIX_INDEX_FAULT_NAME 16u        /* gix_index_update and gix_index_trees alone: a name of the path of the row at
-                                         * the place is none that git lets stand in one */
+#define GIX_INDEX_FAULT_NAME 16u        /* gix_index_update and gix_index_trees alone: git rejects a name in the path of
+                                         * the row at the place, such as `..`, `.git` or an empty one */
 #define GIX_INDEX_FAULT_UNMERGED 17u    /* gix_index_trees alone: the row at the place is in conflict */
-#define GIX_INDEX_FAULT_BELOW 18u       /* gix_index_trees: the path of the row at the place lies below that of another,
-                                         * which is a file's or stands for a whole directory; and gix_index_update: it
-                                         * lies in a directory that the sparse index has as one entry */
+#define GIX_INDEX_FAULT_BELOW 18u       /* gix_index_trees: the row at the place is below another row's path.
+                                         * gix_index_update: it is in a directory that the sparse index has as one
+                                         * entry; `git sparse-checkout reapply --no-sparse-index` expands it */
 
 /* ---- Tables */
 
@@ -122,10 +126,10 @@ typedef struct {
     uint32_t uid;
     uint32_t gid;
     uint32_t size; /* in bytes, modulo 2 to the 32nd */
-    uint32_t mode;
-    uint32_t flags; /* bits 12 and 13 are the stage */
-    uint32_t stage; /* the same, 0 to 3 */
-    uint32_t kind;  /* of its id */
+    uint32_t mode;  /* GIX_INDEX_FILE, or another of the five modes */
+    uint32_t flags; /* GIX_INDEX_EXTENDED and so on; bits 12 and 13 are the stage; the lowest 12 bits aren't used */
+    uint32_t stage; /* the stage too, GIX_INDEX_UNCONFLICTED to GIX_INDEX_THEIRS: set it and flags alike */
+    uint32_t kind;  /* of its id: GIX_INDEX_SHA1 or GIX_INDEX_SHA256 */
     uint8_t id[32]; /* zeros behind the 20 bytes of SHA-1 */
     size_t path_start;
     size_t path_len;
@@ -142,8 +146,8 @@ typedef struct {
     size_t fault_place; /* REFUSED: the place that the fault names, or 0 */
     uint32_t fault;     /* REFUSED: one of the faults above */
     uint32_t version;   /* DONE, NO_ROOM: 2, 3 or 4 */
-    uint32_t has_link;  /* DONE, NO_ROOM: 1 where the index links to a shared one that wasn't followed; else 0 */
-    uint32_t of_shared; /* REFUSED, MEMORY: 1 where that is of the bytes of the shared index; else 0 */
+    uint32_t has_link;  /* DONE, NO_ROOM: 1 if there is a link to a shared index, and it wasn't followed; else 0 */
+    uint32_t of_shared; /* REFUSED, MEMORY: 1 if the shared index caused it; else 0 */
     uint8_t shared_id[32]; /* DONE, NO_ROOM: with has_link the shared index's id, as a row has one, or zeros for none */
 } gix_index_summary;
 
@@ -157,7 +161,7 @@ typedef struct {
 /* The options of calls that write. */
 typedef struct {
     uint32_t kind;    /* of the ids and of the digest, as each row has it */
-    uint32_t version; /* 4; or 2 or 3, which both ask for 3 where a row has GIX_INDEX_EXTENDED, and else for 2 */
+    uint32_t version; /* 4, or 2 or 3: both give version 3 if a row has GIX_INDEX_EXTENDED, and else 2 */
     bool skip_hash;   /* zeros in place of the digest, as git's index.skipHash asks */
 } gix_index_form;
 
@@ -166,12 +170,12 @@ typedef struct {
 typedef struct {
     size_t bytes;       /* DONE, NO_ROOM: how many bytes the index has */
     size_t fault_place; /* REFUSED: the place that the fault names, or 0 */
-    uint32_t fault;     /* REFUSED: ORDER, ROW, MODE, NAME, COUNT, LENGTH; or one of the bytes of the index that is
-                         * written over or updated */
+    uint32_t fault;     /* REFUSED: ORDER, ROW, MODE, NAME, BELOW, COUNT, LENGTH; or a fault of gix_index_read_split,
+                         * for the index that is written over or updated */
     uint32_t version;   /* DONE, NO_ROOM: 2, 3 or 4 */
-    uint32_t tree;      /* gix_index_write_over, where the bytes of that index and the rows are let through: NO_TREE,
-                         * TREE_KEPT or TREE_LEFT_OUT */
-    uint32_t of_shared; /* gix_index_update, REFUSED, MEMORY: 1 where that is of the shared index's bytes; else 0 */
+    uint32_t tree;      /* gix_index_write_over, if that index and the rows are accepted: NO_TREE, TREE_KEPT or
+                         * TREE_LEFT_OUT. Other calls: 0 */
+    uint32_t of_shared; /* gix_index_update, REFUSED, MEMORY: 1 if the shared index caused it; else 0 */
 } gix_index_written;
 
 /* A tree: its id, and the range of its bytes in the bytes of all trees. */
@@ -207,9 +211,9 @@ typedef struct {
     bool is_file;
     bool is_dir;
     bool is_symlink;
-    bool is_executable;  /* it is a file that its owner may run: of a link the bit says nothing */
-    bool has_symlinks;   /* there are links: without them a file stands for one */
-    bool executable_bit; /* there is a bit for execution: without it a file's mode stays as it is */
+    bool is_executable;  /* it is a file, and its owner may execute it; not used for a link */
+    bool has_symlinks;   /* core.symlinks: if false, a file stands for a link */
+    bool executable_bit; /* core.fileMode: if false, a file keeps its mode */
 } gix_index_seen;
 
 /* ---- Calls */
@@ -356,7 +360,9 @@ bool gix_index_is_racy(const gix_index_row *row, int64_t secs, uint32_t nsecs, c
 uint32_t gix_index_mode_for(uint32_t mode, const gix_index_seen *seen);
 
 /* Computes the id that git has for a file with these bytes, as `git hash-object --stdin` prints it. It is 32 bytes,
- * with zeros after the 20 bytes of SHA-1. The caller applies filters and line ends to a file of the work tree.
+ * with zeros after the 20 bytes of SHA-1. The caller applies filters and line ends to a file of the work tree. The
+ * object isn't stored. `git hash-object -w FILE` applies filters, stores the object and prints its id. For a symbolic
+ * link the bytes are its target. `git hash-object -w --stdin` stores them.
  *
  * - DONE: id is written.
  * - WRONG_NUMBER: kind isn't valid, and id is unchanged.
@@ -368,12 +374,13 @@ uint32_t gix_index_blob_id(uint32_t kind, const uint8_t *bytes, size_t bytes_len
  * gives the same rows, except:
  *
  * - Rows with GIX_INDEX_REMOVE are skipped, whatever else they have.
- * - Bits of the flags that are only in memory are lost.
+ * - Of the flags, GIX_INDEX_STAGE_MASK, EXTENDED and ASSUME_VALID are stored. INTENT_TO_ADD and SKIP_WORKTREE are
+ *   stored only with EXTENDED. Other bits are lost.
  *
  * The rows have to meet these conditions:
  *
  * - They increase strictly by path, byte by byte, and then by stage.
- * - Each has the kind of the form, and the stage of its flags.
+ * - Each has the kind of the form. Its stage is that in bits 12 and 13 of its flags.
  * - Its path is in paths, isn't empty, and has no NUL. Paths may be in any order, with other bytes between them.
  * - Its mode is one of the five above other than GIX_INDEX_DIRECTORY. The mark of a sparse index is an extension.
  *
@@ -382,10 +389,10 @@ uint32_t gix_index_blob_id(uint32_t kind, const uint8_t *bytes, size_t bytes_len
  *
  * - DONE: the index is the first told->bytes of bytes. The rest of bytes is unchanged.
  * - NO_ROOM: the call would succeed with told->bytes bytes. So a call with NULL and the length 0 returns this size.
- * - REFUSED: MODE, if fault_place is the first row that doesn't meet the conditions and its mode is none of the five.
- *   ROW, if it is the first such row for another reason. ORDER, if all rows meet the conditions other than order, and
- *   fault_place is the first one, without skipped rows, that isn't greater than the one before it. Otherwise COUNT or
- *   LENGTH.
+ * - REFUSED: MODE or ROW, if a row doesn't meet the conditions other than order. fault_place is the first such row.
+ *   It is MODE if the mode of this row is none of the five, and ROW otherwise. ORDER, if all rows meet them.
+ *   fault_place is then the first row that isn't greater than the one before it; skipped rows don't count. Otherwise
+ *   COUNT or LENGTH.
  * - MEMORY: malloc or realloc failed. The rows meet the conditions and are in order.
  * - WRONG_NUMBER: the kind or the version of the form is invalid.
  *
@@ -417,21 +424,25 @@ uint32_t gix_index_write_over(const gix_index_row *rows, size_t rows_len, const 
  * its file. It is read as by gix_index_read_split with the shared index that it links to, without skip_hash. If there
  * is no link, shared isn't read, and its length may be 0.
  *
- * The rows are the changes, in their order, as `git update-index --add --replace` makes them.
+ * The rows are the changes. They are made one after another, as `git update-index --add --replace` makes them. They
+ * need not be sorted.
  *
- * - A row stages its entry. It replaces the entry with its path and its stage. If the row isn't in conflict, it
- *   replaces the entries with its path at all stages, as a conflict is resolved. It also replaces entries of its stage
- *   that are in its way: a file whose path has to be a directory, or entries below its path.
+ * - A row of stage 0 stages its entry. It replaces the entries with its path at all stages, which resolves a conflict.
+ * - A row of another stage replaces only the entry with its path and its stage. An entry of stage 0 stays, and `git
+ *   fsck` rejects such an index. So begin a conflict with a row that removes the path.
+ * - A row also replaces entries of its stage that are in its way. They are a file whose path has to be a directory, or
+ *   entries below its path.
  * - A row with GIX_INDEX_REMOVE removes its path at each stage, but not what is below it, as `git update-index
- *   --force-remove` does. Only the path of such a row is used. It is cut if it exceeds the end of paths.
+ *   --force-remove` does. Of such a row only flags, path_start and path_len are used. A path that exceeds the end of
+ *   paths is cut there. A path without an entry is skipped, also one that git rejects, such as ./a.
  * - A directory of a sparse index isn't expanded, although git does. A row whose path is in one is rejected, also one
- *   with GIX_INDEX_REMOVE.
+ *   with GIX_INDEX_REMOVE. `git sparse-checkout reapply --no-sparse-index` expands all directories.
  *
  * Extensions are preserved as git preserves them. The cached tree loses the counts on the way to each path. The
- * untracked cache loses the data of the path's directories. Sides of conflicts that are removed are recorded, so that
- * `git checkout -m` restores them. The data of a file system monitor move with the entries. The result has version 4 if
- * the index has. Otherwise it has version 3 if an entry has GIX_INDEX_EXTENDED, and version 2 if none has. It has its
- * digest, no link, and an end marker if the index has one.
+ * untracked cache loses the data of the path's directories. Sides of conflicts that are removed are recorded. `git
+ * checkout -m` restores them if the path still has an entry. The data of a file system monitor move with the entries.
+ * The result has version 4 if the index has. Otherwise it has version 3 if an entry has GIX_INDEX_EXTENDED, and version
+ * 2 if none has. It has its digest, no link, and an end marker if the index has one.
  *
  * - DONE: the index is the first told->bytes of bytes. The rest of bytes is unchanged.
  * - NO_ROOM: the call would succeed with told->bytes bytes. So a call with NULL and the length 0 returns this size.
@@ -443,8 +454,8 @@ uint32_t gix_index_write_over(const gix_index_row *rows, size_t rows_len, const 
  *
  * - one of gix_index_read_split, with of_shared if it is in shared;
  * - ORDER: fault_place is the first entry of the index that isn't greater than the one before it;
- * - MODE or ROW: fault_place is the first row without GIX_INDEX_REMOVE that gix_index_write rejects as such, or
- *   gix_index_write_over for a sparse index;
+ * - MODE or ROW: fault_place is the first row without GIX_INDEX_REMOVE that doesn't meet the conditions of
+ *   gix_index_write, other than order. For a sparse index they are those of gix_index_write_over;
  * - NAME or ROW: fault_place is the first row whose change is rejected by itself. NAME: a name of its path is empty, or
  *   git rejects it, such as `..` and `.git`. ROW: its id is zeros, its mode is GIX_INDEX_DIRECTORY, or there is no room
  *   for its path;

@@ -2,22 +2,35 @@
 /* Reads and checks the index at a path, with its link followed, and changes it or replaces it by a table under a lock,
  * for POSIX systems. gix_index_table.h has only the calls that read and check.
  *
- * These calls are safe if git may write the same index concurrently: gix_index_lock_file, then gix_index_read_file if
- * the entries are needed, then gix_index_commit_changes or gix_index_commit. The index that is replaced is the one that
- * was read. gix_index_commit_changes makes changes as git makes them, and gix_index_commit writes a table.
+ * These calls are safe if git may write the same index concurrently:
+ *
+ * 1. gix_index_lock_file;
+ * 2. gix_index_read_file of lock->path, if the entries are needed or gix_index_commit follows;
+ * 3. gix_index_commit_changes, which makes changes as git makes them, or gix_index_commit, which writes a table.
+ *
+ * If a step before the third fails, or the index is to stay, call gix_index_rollback. The index that is replaced is the
+ * one that was read.
+ *
  * gix_index_write_file and gix_index_write_file_over lock only when they write. What another process wrote after the
  * index was read is lost.
  *
- * The library itself opens no files. So this header is C code that isn't proved. With -std=c99 and the like,
- * _POSIX_C_SOURCE has to be 200809L before the first header is included. */
+ * The library itself opens no files. So this header is C code that isn't proved. With -std=c99, -std=c11 and the like,
+ * define _POSIX_C_SOURCE as 200809L before the first #include. */
 #ifndef GIX_INDEX_FILE_H
 #define GIX_INDEX_FILE_H
 
 #include "gix_index_table.h"
 
+/* C has no other casts. */
+#if defined __cplusplus && defined __GNUC__
+#pragma GCC diagnostic push
+#pragma GCC diagnostic ignored "-Wold-style-cast"
+#endif
+
 /* A status of calls that lock, in addition to those of the other headers. GIX_INDEX_SYSTEM with EEXIST means that the
- * lock file exists. Another process writes the index, or died, and then the file has to be removed by hand.
- * GIX_INDEX_SYSTEM with ELOOP means that a chain has more than GIX_INDEX_MOST_LINKS symbolic links. */
+ * lock file exists: another process writes the index. Try again later. A process that was killed leaves its lock file.
+ * Remove the file by hand if no process uses the repository. GIX_INDEX_SYSTEM with ELOOP means that a chain has more
+ * than GIX_INDEX_MOST_LINKS symbolic links. */
 #define GIX_INDEX_NOT_REGULAR 7u /* what is to be written over is a directory, a device, a fifo or a socket */
 
 /* The largest number of symbolic links that are followed to the file that is locked, as in git. */
@@ -27,11 +40,11 @@
  * index. */
 typedef struct {
     char *path;            /* the index: the file that the given path names, behind all symbolic links */
-    char *lock_path;       /* the lock file: that with `.lock` behind it; NULL where it wasn't come to */
+    char *lock_path;       /* the lock file: that path and `.lock`; NULL if the call failed earlier */
     int file;              /* the lock file, open to be written */
     bool is_held;          /* whether the lock file is this lock's own */
-    mode_t mode;           /* what stands at the index's path, its type and its permissions; 0 where nothing does */
-    struct timespec mtime; /* when that was written last */
+    mode_t mode;           /* the type and the permissions of the index; 0 if there is none */
+    struct timespec mtime; /* when the index was written last; zeros if there is none */
 } gix_index_lock;
 
 /* Removes the lock file if this lock owns it, and keeps its path. errno is unchanged. */
@@ -46,7 +59,8 @@ static inline void gix_index_unlock(gix_index_lock *lock) {
 }
 
 /* Releases a lock. The index is unchanged, the lock file is removed if this lock owns it, and the memory is freed.
- * errno is unchanged. The lock is zeros afterwards, for which another call does nothing. */
+ * errno is unchanged. The lock is zeros afterwards, and another call does nothing. The lock has to be one that
+ * gix_index_lock_file was given, or zeros. */
 GIX_INDEX_API void gix_index_rollback(gix_index_lock *lock) {
     int error = errno;
     gix_index_unlock(lock);
@@ -119,18 +133,19 @@ static inline uint32_t gix_index_make_lock(gix_index_lock *lock) {
     return status;
 }
 
-/* Locks the index at a path as git locks it. First it follows symbolic links, at most GIX_INDEX_MOST_LINKS; the target
- * of the last one has to exist. Then it creates the lock file, which must not exist. What is read from lock->path
- * afterwards stays until gix_index_commit_changes, gix_index_commit or gix_index_rollback ends the lock.
+/* Locks the index at a path as git locks it. `git rev-parse --git-path index` prints the path. First it follows
+ * symbolic links, at most GIX_INDEX_MOST_LINKS; the target of the last one has to exist. Then it creates the lock file,
+ * which must not exist. What is read from lock->path afterwards stays until gix_index_commit_changes, gix_index_commit
+ * or gix_index_rollback ends the lock. If the process ends before, the lock file stays, and git refuses to write.
  *
  * - DONE: the lock is held.
  * - NOT_REGULAR: the file at lock->path isn't a regular file, and lock->mode is its mode.
  * - MEMORY: malloc failed.
  * - SYSTEM: a system call failed.
  *
- * With each status other than DONE no lock is held, and all files are unchanged. With each status gix_index_rollback
- * frees the memory. The paths in the lock are those at the end of all links, so with EEXIST lock->lock_path is the
- * existing lock file. */
+ * The lock need not be initialized. With each status other than DONE no lock is held, and all files are unchanged. Call
+ * gix_index_rollback then too: it frees the memory. The paths in the lock are those at the end of all links. So with
+ * EEXIST lock->lock_path is the existing lock file. */
 GIX_INDEX_API uint32_t gix_index_lock_file(const char *path, gix_index_lock *lock) {
     size_t size = strlen(path) + 1;
     memset(lock, 0, sizeof *lock);
@@ -242,10 +257,10 @@ static inline uint8_t *gix_index_image(const gix_index_row *rows, size_t rows_le
  *
  * - DONE: the index is written.
  * - REFUSED, MEMORY, WRONG_NUMBER: as those calls return them. MEMORY also if malloc fails for the bytes.
- * - SYSTEM: a system call failed.
+ * - SYSTEM: a system call failed, with the reason in errno. With EBADF the lock isn't held.
  *
- * NO_ROOM isn't returned. With each status other than DONE the index is unchanged. With each status the lock file is
- * removed, if possible, and gix_index_rollback was called. told is written with each status. */
+ * NO_ROOM isn't returned. With each status other than DONE the index is unchanged. With each status the lock is
+ * released as by gix_index_rollback. told is written with each status. */
 GIX_INDEX_API uint32_t gix_index_commit(gix_index_lock *lock, const gix_index_table *t, const gix_index_form *form,
                                         bool is_synced, gix_index_written *told) {
     uint32_t status;
@@ -285,17 +300,20 @@ static inline uint8_t *gix_index_locked_bytes(const gix_index_lock *lock, const 
 
 /* Changes the index that is locked as gix_index_update changes bytes, writes the result in its place, and ends the
  * lock. A link to a shared index is followed as by gix_index_read_file. If there is no index yet, the changes are made
- * to one without entries. It gets version 2, or 3 if a row has GIX_INDEX_EXTENDED.
+ * to one without entries. It gets version 2, or 3 if a row has GIX_INDEX_EXTENDED. A wrong kind isn't noticed then,
+ * and git reads wrong entries from the new index.
  *
  * Permissions and is_synced are as for gix_index_commit. The time is that of the old index, so git compares each file
  * that it would have compared.
  *
  * - DONE: the index is written.
- * - REFUSED, MEMORY, WRONG_NUMBER: as gix_index_update returns them. MEMORY also if malloc fails for the bytes.
- * - SYSTEM: a system call failed. With told->of_shared it reads the shared index.
+ * - REFUSED, MEMORY, WRONG_NUMBER: as gix_index_update returns them. MEMORY also if malloc fails for the bytes. For a
+ *   fault of the index, gix_index_check_file returns a message.
+ * - SYSTEM: a system call failed, with the reason in errno. With told->of_shared it was one for the shared index. With
+ *   EBADF the lock isn't held.
  *
- * NO_ROOM isn't returned. With each status other than DONE the index is unchanged. With each status the lock file is
- * removed, if possible, and gix_index_rollback was called. told is written with each status. */
+ * NO_ROOM isn't returned. With each status other than DONE the index is unchanged. With each status the lock is
+ * released as by gix_index_rollback. told is written with each status. */
 GIX_INDEX_API uint32_t gix_index_commit_changes(gix_index_lock *lock, uint32_t kind, const gix_index_row *rows,
                                                 size_t rows_len, const uint8_t *paths, size_t paths_len,
                                                 bool is_synced, gix_index_written *told) {
@@ -365,5 +383,9 @@ GIX_INDEX_API uint32_t gix_index_write_file_over(const char *path, const gix_ind
                                      &status);
     return bytes ? gix_index_put_file(path, bytes, told->bytes) : status;
 }
+
+#if defined __cplusplus && defined __GNUC__
+#pragma GCC diagnostic pop
+#endif
 
 #endif

@@ -2,8 +2,8 @@
 /* Reads and checks the index at a path, with its link followed, and passes the trees of a table to a function, for
  * POSIX systems. gix_index_file.h includes all of it, and also writes an index.
  *
- * The library itself opens no files. So this header is C code that isn't proved. With -std=c99 and the like,
- * _POSIX_C_SOURCE has to be 200809L before the first header is included. */
+ * The library itself opens no files. So this header is C code that isn't proved. With -std=c99, -std=c11 and the like,
+ * define _POSIX_C_SOURCE as 200809L before the first #include. */
 #ifndef GIX_INDEX_TABLE_H
 #define GIX_INDEX_TABLE_H
 
@@ -18,37 +18,48 @@
 #include <time.h>
 #include <unistd.h>
 
+/* C has no other casts. */
+#if defined __cplusplus && defined __GNUC__
+#pragma GCC diagnostic push
+#pragma GCC diagnostic ignored "-Wold-style-cast"
+#endif
+
 #ifndef UTIME_OMIT
 #error "gix_index_table.h takes POSIX of 2008: define _POSIX_C_SOURCE as 200809L before the first header is included"
 #endif
 
 /* How the calls of the headers for files are linked. By default each source that includes them has functions of its
  * own. The shared library has the same calls by the same names, for callers in other languages; gix_index_file.c makes
- * them. */
+ * them. Callers may also use gix_index_set_stat and gix_index_more_room. All other functions without GIX_INDEX_API are
+ * parts of the calls, and may change. */
 #ifndef GIX_INDEX_API
 #define GIX_INDEX_API static inline
 #endif
 
-/* A status of calls for files in addition to those of gix_index.h: a system call failed, and errno has the reason. For
- * example, EFBIG is a file with more than GIX_INDEX_MOST_BYTES, or without an end; EISDIR is a directory to be read. */
+/* A status of calls for files in addition to those of gix_index.h: a system call failed, and errno has the reason. The
+ * text is empty. For example, EFBIG is a file to be read with more than GIX_INDEX_MOST_BYTES, or without an end. EISDIR
+ * is a directory to be read. */
 #define GIX_INDEX_SYSTEM 6u
 
 /* A status of gix_index_write_trees alone: the function that takes trees returned a number other than 0. */
 #define GIX_INDEX_STOPPED 8u
 
 /* The largest number of bytes of an index file: 2 to the 32nd, and the longest trailer. */
-#define GIX_INDEX_MOST_BYTES (((uint64_t)1 << 32) + 32)
+#define GIX_INDEX_MOST_BYTES 4294967328u
 
-/* A table that owns its memory, and the bytes of the file from which it was read. */
+/* A table that owns its memory, and the bytes of the file from which it was read. gix_index_read_file fills it, and
+ * gix_index_drop_table frees it. */
 typedef struct {
-    gix_index_row *rows;
-    uint8_t *paths;
-    uint8_t *bytes;
+    gix_index_row *rows; /* said.entries rows */
+    uint8_t *paths;      /* said.path_bytes bytes */
+    uint8_t *bytes;      /* all bytes of the file */
     size_t bytes_len;
     struct timespec mtime; /* of that file, as it was when it was read; zeros where the table wasn't read from one */
     gix_index_summary said;
 } gix_index_table;
 
+/* Frees the memory of a table. It is zeros afterwards, and another call does nothing. The table has to be one that
+ * gix_index_read_file was given, or zeros. */
 GIX_INDEX_API void gix_index_drop_table(gix_index_table *t) {
     free(t->rows);
     free(t->paths);
@@ -69,8 +80,9 @@ static inline bool gix_index_more_room(gix_index_table *t, size_t rows, size_t p
 }
 
 /* Stores the stat of a file, usually that of lstat, in a row: its numbers, each modulo 2 to the 32nd as git stores it,
- * and its mode. A directory gets the mode of a submodule. Returns false, and leaves the mode unchanged, for another
- * type than a regular file, a link or a directory. */
+ * and its mode. Call lstat before the file is read for its id. So a later change of the file is noticed. A directory
+ * gets the mode of a submodule, whose id is that of its commit. Returns false, and leaves the mode unchanged, for
+ * another type than a regular file, a link or a directory. The other fields of the row are unchanged. */
 static inline bool gix_index_set_stat(gix_index_row *row, const struct stat *seen) {
     row->ctime_secs = (uint32_t)seen->st_ctim.tv_sec;
     row->ctime_nsecs = (uint32_t)seen->st_ctim.tv_nsec;
@@ -208,6 +220,14 @@ static inline uint32_t gix_index_fill_of_both(gix_index_table *t, const uint8_t 
                                 t->paths, t->said.path_bytes, text, text_len, &t->said);
 }
 
+/* Sets the counts and the version of a summary to 0. The text's length and of_shared stay. */
+static inline void gix_index_clear_counts(gix_index_summary *said) {
+    const gix_index_summary told = *said;
+    memset(said, 0, sizeof *said);
+    said->text_bytes = told.text_bytes;
+    said->of_shared = told.of_shared;
+}
+
 /* Reads the shared index to which the bytes of the index at a path link. The caller frees the result.
  *
  * - DONE: the bytes of the shared index. They are NULL if the bytes have no link, or are rejected.
@@ -242,10 +262,11 @@ static inline uint32_t gix_index_shared_of(const char *path, const uint8_t *byte
  * The statuses, the summary in the table and the text are those of gix_index_read_split, with these differences:
  *
  * - MEMORY: also if malloc fails for the table.
- * - SYSTEM: a file can't be read, with the reason in errno. With t->said.of_shared it is the shared index.
+ * - SYSTEM: a file can't be read, with the reason in errno. With t->said.of_shared it is the shared index. With ENOENT
+ *   and without of_shared there is no index yet. The table is empty then, and gix_index_commit takes it.
  * - NO_ROOM isn't returned.
  *
- * With each status, gix_index_drop_table frees the memory. */
+ * The table need not be initialized. With each status call gix_index_drop_table, which frees the memory. */
 GIX_INDEX_API uint32_t gix_index_read_file(const char *path, uint32_t kind, uint8_t *text, size_t text_len,
                                            gix_index_table *t) {
     uint8_t *shared;
@@ -260,12 +281,7 @@ GIX_INDEX_API uint32_t gix_index_read_file(const char *path, uint32_t kind, uint
     else if (status == GIX_INDEX_DONE)
         status = gix_index_fill(t, kind, text, text_len);
     free(shared);
-    if (status == GIX_INDEX_MEMORY) {
-        gix_index_summary told = t->said;
-        memset(&t->said, 0, sizeof t->said);
-        t->said.text_bytes = told.text_bytes;
-        t->said.of_shared = told.of_shared;
-    }
+    if (status == GIX_INDEX_MEMORY || status == GIX_INDEX_SYSTEM) gix_index_clear_counts(&t->said);
     return status;
 }
 
@@ -286,6 +302,7 @@ GIX_INDEX_API uint32_t gix_index_check_file(const char *path, uint32_t kind, uin
     uint32_t status = gix_index_shared_of(path, bytes, len, kind, text, text_len, said, &shared, &shared_len);
     if (status == GIX_INDEX_DONE)
         status = gix_index_check_split(bytes, len, shared, shared_len, kind, false, text, text_len, said);
+    if (status == GIX_INDEX_SYSTEM) gix_index_clear_counts(said);
     int error = errno;
     free(bytes);
     free(shared);
@@ -330,5 +347,9 @@ GIX_INDEX_API uint32_t gix_index_write_trees(const gix_index_row *rows, size_t r
     errno = error;
     return status;
 }
+
+#if defined __cplusplus && defined __GNUC__
+#pragma GCC diagnostic pop
+#endif
 
 #endif

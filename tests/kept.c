@@ -246,6 +246,18 @@ static void split(const char *file) {
     gix_index_drop_table(&t);
 }
 
+/* A split index whose shared one isn't there: the statuses of both calls, and counts of 0. */
+static void missing(const char *file) {
+    gix_index_table t;
+    uint32_t status = gix_index_read_file(file, form.kind, text, sizeof text, &t);
+    expect(status == GIX_INDEX_SYSTEM && errno == ENOENT && t.said.of_shared == 1, "another status", status, errno);
+    expect(!t.rows && t.said.entries == 0 && t.said.version == 0, "counts without rows", t.said.entries, t.said.version);
+    gix_index_drop_table(&t);
+    status = gix_index_check_file(file, form.kind, text, sizeof text, &said);
+    expect(status == GIX_INDEX_SYSTEM && errno == ENOENT && said.of_shared == 1, "another status", status, errno);
+    expect(said.entries == 0 && said.version == 0, "counts of a check", said.entries, said.version);
+}
+
 /* ---- Once, where memory may be refused */
 
 static void over_once(void) {
@@ -286,6 +298,7 @@ int main(int argc, char **argv) {
     if (argc > 5) shared_len = read_here(argv[5], shared);
     if (!strcmp(argv[1], "over")) over(argv[4]);
     if (!strcmp(argv[1], "split")) split(argv[4]);
+    if (!strcmp(argv[1], "missing")) missing(argv[4]);
     if (!strcmp(argv[1], "over-once")) over_once();
     if (!strcmp(argv[1], "split-once")) split_once();
     if (!strcmp(argv[1], "check-once")) check_once();

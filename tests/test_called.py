@@ -180,6 +180,14 @@ class Kept(Called):
         for kind in KINDS:
             self.look_at(kind, "split", *self.split(kind))
 
+    def test_split_index_without_its_shared_one(self):
+        for kind in KINDS:
+            alone = self.place / "alone" / f"{kind}.index"
+            alone.parent.mkdir(exist_ok=True)
+            shutil.copy(index_of(kind, "split"), alone)
+            three = self.three(kind)
+            self.is_ok(kind, installed.in_c_sanitized("kept"), "missing", kind, three, alone)
+
     def test_each_with_memory_refused(self):
         for kind in KINDS:
             three = self.three(kind)

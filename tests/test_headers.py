@@ -54,7 +54,9 @@ class Headers(Case):
         source = self.room() / "source"
         for what, text in (*sources(), *(sources_in_c() if language == "c" else ())):
             source.write_text(text, encoding="utf-8")
-            status, out, faults = answer((*words, *WARNINGS, source))
+            # (the caller is C, which has no other casts)
+            casts = ("-Wold-style-cast",) if language == "c++" and what != CALLER.name else ()
+            status, out, faults = answer((*words, *WARNINGS, *casts, source))
             self.hold(f"{name}: {what}: {(out + faults).decode()}", (status, out + faults) == (0, b""))
         if language == "c":
             source.write_text(included(HEADERS), encoding="utf-8")
