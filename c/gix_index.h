@@ -14,8 +14,8 @@
  * Threads. Calls share nothing. Any number of them may run at the same time on memory of their own, and may read the
  * same memory. No call may be made in a signal handler, or in a child that a process with threads has forked.
  *
- * A bool is 0 or 1. Ids are bytes, not base 16. `git rev-parse --show-object-format` prints the kind of a repository's
- * ids. Paths are bytes without a NUL at their end. They start at the top of the work tree: src/main.c, and not
+ * A bool is 0 or 1. Ids are bytes, not base 16. `git rev-parse --show-object-format` prints the hash algorithm of a
+ * repository. Paths are bytes without a NUL at their end. They start at the top of the work tree: src/main.c, and not
  * /src/main.c or ./src/main.c. The library stores no objects. `git commit` needs the object of each id, and `git
  * hash-object -w` stores it.
  *
@@ -45,7 +45,7 @@ extern "C" {
 /* ---- Statuses: what a call answers */
 
 #define GIX_INDEX_DONE 0u         /* it did what it says */
-#define GIX_INDEX_REFUSED 1u      /* the bytes of an index, or the rows, are rejected; the fault is the reason */
+#define GIX_INDEX_REFUSED 1u      /* the bytes of an index, or the rows, are rejected for the reason in fault */
 #define GIX_INDEX_MEMORY 2u       /* malloc or realloc gave nothing */
 #define GIX_INDEX_NO_ROOM 3u      /* the caller's memory is too small; the call returns the sizes it needs */
 #define GIX_INDEX_WRONG_NUMBER 4u /* the kind or the version that was passed is invalid */
@@ -93,7 +93,7 @@ extern "C" {
 #define GIX_INDEX_FAULT_EXTENSION 5u /* a mandatory extension isn't understood */
 #define GIX_INDEX_FAULT_LINK 6u      /* the link is damaged, or doesn't match the shared index */
 #define GIX_INDEX_FAULT_TRAILER 7u   /* what follows the entries and extensions isn't as long as the trailer */
-#define GIX_INDEX_FAULT_DIGEST 8u    /* the digest isn't the trailer: try the other kind, or the file is damaged */
+#define GIX_INDEX_FAULT_DIGEST 8u    /* the digest isn't the trailer: another hash algorithm, or damage */
 /* (9 isn't used) */
 #define GIX_INDEX_FAULT_ORDER 10u       /* calls that check, write, update or give trees: the entry at the place isn't
                                          * above the one before it */

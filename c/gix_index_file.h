@@ -136,7 +136,7 @@ static inline uint32_t gix_index_make_lock(gix_index_lock *lock) {
 /* Locks the index at a path as git locks it. `git rev-parse --git-path index` prints the path. First it follows
  * symbolic links, at most GIX_INDEX_MOST_LINKS; the target of the last one has to exist. Then it creates the lock file,
  * which must not exist. What is read from lock->path afterwards stays until gix_index_commit_changes, gix_index_commit
- * or gix_index_rollback ends the lock. If the process ends before, the lock file stays, and git refuses to write.
+ * or gix_index_rollback ends the lock. If the process ends before, the lock file stays, and git writes no index.
  *
  * - DONE: the lock is held.
  * - NOT_REGULAR: the file at lock->path isn't a regular file, and lock->mode is its mode.
@@ -308,7 +308,7 @@ static inline uint8_t *gix_index_locked_bytes(const gix_index_lock *lock, const 
  *
  * - DONE: the index is written.
  * - REFUSED, MEMORY, WRONG_NUMBER: as gix_index_update returns them. MEMORY also if malloc fails for the bytes. For a
- *   fault of the index, gix_index_check_file returns a message.
+ *   damaged index, gix_index_check_file returns a message.
  * - SYSTEM: a system call failed, with the reason in errno. With told->of_shared it was one for the shared index. With
  *   EBADF the lock isn't held.
  *

@@ -251,7 +251,7 @@ static void missing(const char *file) {
     gix_index_table t;
     uint32_t status = gix_index_read_file(file, form.kind, text, sizeof text, &t);
     expect(status == GIX_INDEX_SYSTEM && errno == ENOENT && t.said.of_shared == 1, "another status", status, errno);
-    expect(!t.rows && t.said.entries == 0 && t.said.version == 0, "counts without rows", t.said.entries, t.said.version);
+    expect(!t.rows && !t.said.entries && !t.said.version, "counts without rows", t.said.entries, t.said.version);
     gix_index_drop_table(&t);
     status = gix_index_check_file(file, form.kind, text, sizeof text, &said);
     expect(status == GIX_INDEX_SYSTEM && errno == ENOENT && said.of_shared == 1, "another status", status, errno);
