@@ -60,7 +60,10 @@ def parts(library):
     yield f"{NAME}/{library.name}", library.read_bytes()
     info = f"{NAME}-{version()}.dist-info"
     for name in LICENSES:
-        yield f"{info}/{name}", (HERE.parent / name).read_bytes()
+        # (NOTICE is only above this folder: a copy of the folder by itself has none)
+        found = next((folder / name for folder in (HERE, HERE.parent) if (folder / name).is_file()), None)
+        if found:
+            yield f"{info}/{name}", found.read_bytes()
     yield f"{info}/METADATA", metadata().encode()
     wheel = f"Wheel-Version: 1.0\nGenerator: {NAME}\nRoot-Is-Purelib: false\nTag: {tag(library.read_bytes())}\n"
     yield f"{info}/WHEEL", wheel.encode()

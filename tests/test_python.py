@@ -3,30 +3,33 @@
 Its numbers and structures must be those of the headers in c/, and the shared library have the calls of these and no
 other name. Of each index of repositories that git makes the entries must be those that git lists, with its stats and
 flags; searches must find what a look at each entry finds; what is written must be read again, by git too. Of copies
-that are damaged the module must say what the example `list` in C says. Paths are staged and unstaged at random, and in
-a table that does the same by itself; what comes of it is committed by way of a lock, and git must list the same, and
-the sides of conflicts that went. A lock is removed where it is left without a commit, however that is. Each Python
-since 3.8 that is there reads one index.
+that are damaged the module must say what the example `list` in C says.
+
+Paths are staged and unstaged at random, one by one and many at once, and in a table that does the same by itself. What
+comes of it is committed under a lock, and git must list the same, and the sides of conflicts that went. An entry that
+can't be staged must leave the index as it was. A lock is removed if it is left without a commit, however that is. The
+entries whose files may have changed must be those that each rule by itself gives, and all that git finds changed.
+
+Each Python since 3.8 that is there reads one index. pip installs a copy of the module's folder, and mypy checks the
+module and a caller by its strict rules, if they are there.
 """
 import ctypes
 import os
 import random
 import re
 import shutil
-import stat
 import sys
 
-from tests import TOP, installed, repositories
+from tests import TOP, installed, module_edits, module_views, repositories
 from tests.case import Case, needs
 from tests.common import KINDS, answer, run
 from tests.damaged import damaged
-from tests.repository import ask_git, git, index_in, write
+from tests.module_edits import TURNS, is_raised, listed
+from tests.repository import git, index_in
 
 HEADERS = ("gix_index.h", "gix_index_table.h", "gix_index_file.h")
 STRUCTURES = ("row", "summary", "places", "form", "written", "tree", "given", "comparison", "seen", "table",
               "lock")
-# How many times something is staged or unstaged.
-TURNS = 150
 PYTHONS = tuple(f"python3.{minor}" for minor in range(8, 20))
 
 
@@ -96,11 +99,6 @@ def names(room):
 
 
 # ---- What is read
-
-
-def listed(index):
-    """An index as `git ls-files -s -z --sparse` lists it."""
-    return b"".join(b"%06o %s %d\t%s\0" % (it.mode, it.id.hex().encode(), it.stage, it.path) for it in index)
 
 
 def debugged(index):
@@ -224,15 +222,6 @@ def trees(module, folder, index):
     yield "its trees", found[-1][0] == root and [data for _, data in found] == of_git
 
 
-def is_raised(fault, call, *words):
-    """Whether a call raises this."""
-    try:
-        call(*words)
-    except fault:
-        return True
-    return False
-
-
 def damages(module, kind, data, room, program_of):
     """What is looked at of copies of an index that are damaged."""
     path = room / "damaged.index"
@@ -246,101 +235,6 @@ def damages(module, kind, data, room, program_of):
         text = faults.decode(errors="replace").partition(f"{path}: ")[2]
         is_of_link = "sharedindex." in text or "No such file" in text
         yield f"copy {place}: {text}", found[:2] == (status, out) and (is_of_link or found[2] == text)
-
-
-# ---- What is changed
-
-
-def way(path, other):
-    """Whether one path is the other, or lies below it."""
-    return path == other or path.startswith(other + b"/")
-
-
-def edits(module, index, draw):
-    """Stages and unstages at random, and says whether a table that does the same has the same entries in the end."""
-    table = {(entry.path, entry.stage): entry for entry in index}
-    parts = [b"a", b"b", b"a-b", b"docs", b"src", b"file-1.txt", b"gr\xc3\xbc\xc3\x9fe", b"\xff"]
-    for turn in range(TURNS):
-        path = b"/".join(draw.choice(parts) for _ in range(draw.randrange(1, 4)))
-        if draw.random() < 0.3:
-            path = draw.choice([*table])[0] if table else path
-        if draw.random() < 0.35:
-            gone, put = [key for key in table if way(key[0], path)], {}
-            index.unstage(path)
-        else:
-            stage = draw.choice((0, 0, 0, 1, 2, 3))
-            seen = module.Stat(*(draw.randrange(1 << 32) for _ in module.Stat._fields))
-            entry = module.Entry(path, draw.randbytes(index.kind.len_in_bytes), module.Mode.FILE, stage << 12, seen)
-            gone = [key for key in table if (way(key[0], path) or way(path, key[0])) and not stage]
-            put = {(path, stage): entry}
-            index.stage(entry)
-        for key in gone:
-            del table[key]
-        table |= put
-        if turn % 10 == 0 or turn == TURNS - 1:
-            yield f"turn {turn}", index.entries == [table[key] for key in sorted(table)]
-    yield "what is written", module.Index.from_bytes(index.to_bytes()).entries == index.entries
-
-
-def commits(module, kind, folder):
-    """What is looked at where an index is locked, changed and committed."""
-    path = index_in(folder)
-    lock, before = path.with_name("index.lock"), path.read_bytes()
-    path.chmod(0o640)
-    with module.Index.lock(path) as index:
-        yield "git is kept out", ask_git(folder, "add", ".")[0] == 128 and lock.exists()
-        yield "another lock", is_raised(FileExistsError, module.Index.lock, path)
-        yield "it has entries", index.entries == module.Index.open(path).entries and index.path == str(path)
-        index.unstage("docs")
-    yield "it is left", not lock.exists() and path.read_bytes() == before
-    try:
-        with module.Index.lock(path) as index:
-            raise KeyError
-    except KeyError:
-        yield "it is left by a fault", not lock.exists() and path.read_bytes() == before
-    index = module.Index.lock(path)
-    index.close()
-    yield "it is closed", not lock.exists() and is_raised(ValueError, index.commit)
-    index = module.Index.lock(path)
-    yield "it is held", lock.exists()
-    child = os.fork()
-    if child == 0:
-        index.close()
-        os._exit(0)
-    os.waitpid(child, 0)
-    yield "another process leaves it", lock.exists()
-    del index
-    yield "it is forgotten", not lock.exists()
-    write(folder, "docs/new.txt", "new\n")
-    id = bytes.fromhex(git(folder, "hash-object", "-w", "docs/new.txt").decode())
-    time = path.stat().st_mtime_ns
-    with module.Index.lock(path) as index:
-        yield "an id of another length", is_raised(ValueError, index.stage, module.Entry(b"a", id[1:]))
-        index.stage(module.Entry.of("docs/new.txt", id, os.lstat(folder / "docs" / "new.txt")))
-        index.unstage("src/inner")
-        index.commit(sync=True)
-        yield "a second commit", is_raised(ValueError, index.commit)
-    seen = path.stat()
-    yield "no lock is left", not lock.exists()
-    yield "time and permissions stay", (seen.st_mtime_ns, stat.S_IMODE(seen.st_mode)) == (time, 0o640)
-    wanted = [line for line in index if line.path == b"docs/new.txt" or line.path.startswith(b"src/inner")]
-    yield "what is staged", [entry.id for entry in wanted] == [id]
-    yield "git's listing", listed(index) == git(folder, "ls-files", "-s", "-z")
-    yield "git's check", ask_git(folder, "fsck", "--no-dangling")[:2] == (0, b"")
-    yield "git's status", b"A  docs/new.txt\n" in git(folder, "status", "--porcelain")
-    sides = [entry for entry in module.Index.open(path) if entry.stage]
-    if sides:
-        with module.Index.lock(path) as index:
-            index.unstage(sides[0].path)
-            index.commit()
-        undone = git(folder, "ls-files", "--resolve-undo", "-z")
-        yield "sides that went are recorded", sides[0].id.hex().encode() in undone and sides[0].path in undone
-        yield "git's listing without them", listed(index) == git(folder, "ls-files", "-s", "-z")
-    with module.Index.lock(path) as index:
-        index.stage(module.Entry(b"a", id, 0o100600))
-        yield "a mode that is none", is_raised(module.Refused, index.commit)
-    yield "it is as it was", listed(module.Index.open(path)) == git(folder, "ls-files", "-s", "-z")
-    yield "no lock is left behind a fault", not lock.exists()
 
 
 def faults(module, kind, room):
@@ -359,15 +253,6 @@ def faults(module, kind, room):
     missing.unlink()
 
 
-def sparse_faults(module, kind, folder):
-    """What is looked at of paths in directories that a sparse index leaves out."""
-    index = module.Index.open(index_in(folder))
-    entry = module.Entry(b"docs/new.txt", bytes(index.kind.len_in_bytes))
-    yield "staging there", is_raised(ValueError, index.stage, entry)
-    yield "unstaging there", is_raised(ValueError, index.unstage, "docs/file-1.txt")
-    yield "unstaging it", index.unstage("docs") == 1 and index.find("docs/") is None
-
-
 def samples(room, folder):
     """What is looked at of the README's sample."""
     index, changed = index_in(folder), room / "damaged.index"
@@ -378,6 +263,31 @@ def samples(room, folder):
     yield "the sample without one", answer((sample, index, "docs")) == (0, b"none\n", b"")
     status, out, said = answer((sample, changed, "docs/file-3.txt"))
     yield "the sample of a damaged index", (status, out, said.count(b"\n")) == (1, b"", 1)
+
+
+def installs(room):
+    """What is looked at of a copy of the module's folder that pip installs."""
+    source, modules = room / "source", room / "modules"
+    shutil.copytree(TOP / "python", source, ignore=shutil.ignore_patterns("__pycache__"))
+    pip = (sys.executable, "-m", "pip", "--disable-pip-version-check")
+    if answer((*pip, "--version"))[0] != 0:
+        print(f"python: there is no pip: a copy of {TOP / 'python'} isn't installed")
+        return
+    words = (*pip, "install", "--quiet", "--no-index", "--no-deps", "--no-compile", "--target", modules, ".")
+    env = {name: text for name, text in os.environ.items() if name not in ("GIX_INDEX_LIB", "PYTHONPATH")}
+    build = (sys.executable, "-B", "-c", "import backend; backend.build_wheel('.')")
+    status, _, said = answer(build, cwd=source, env=env)
+    yield "a wheel without the library", status == 1 and b"GIX_INDEX_LIB names no folder" in said
+    done = answer(words, cwd=source, env=env | {"GIX_INDEX_LIB": str(installed.prefix() / "lib")})
+    yield f"pip: {done}", done[0] == 0
+    names = {path.name for path in (modules / "gix_index").iterdir()}
+    yield f"the files: {names}", {"__init__.py", "py.typed", "libgix_index.so.1"} <= names
+    licenses = {path.name for path in modules.glob("gix_index-*.dist-info/*")}
+    yield f"the licenses: {licenses}", {"LICENSE-MIT", "LICENSE-APACHE"} <= licenses
+    index = TOP / "crates" / "index_tool" / "data" / "one.index"
+    found = answer((sys.executable, "-B", source / "examples" / "sample.py", index, "a"),
+                   cwd=room, env=env | {"PYTHONPATH": str(modules)})
+    yield f"the sample: {found}", found == (0, b"1" * 40 + b"\n", b"")
 
 
 @needs("git", "cc")
@@ -421,8 +331,32 @@ class Module(Python):
     def test_random_edits(self):
         for kind in KINDS:
             for number in range(len(repositories.SORTS)):
-                found = edits(self.module, self.module.Index(self.module.Kind(kind)), random.Random(number))
+                index = self.module.Index(self.module.Kind(kind))
+                found = module_edits.edits(self.module, index, random.Random(number))
                 self.hold_all(found, f"{kind}, edits {number}: ")
+
+    def test_random_edits_that_are_committed(self):
+        for kind in KINDS:
+            for number in range(4):
+                found = module_edits.committed_edits(self.module, kind, self.room(), random.Random(number))
+                self.hold_all(found, f"{kind}, edits {number}: ")
+
+    def test_many_entries(self):
+        for kind in KINDS:
+            self.hold_all(module_edits.many(self.module, kind), f"{kind}: ")
+
+    def test_locks_without_an_index(self):
+        for kind in KINDS:
+            self.hold_all(module_edits.beginnings(self.module, kind, self.room()), f"{kind}: ")
+
+    def test_entries_that_are_made(self):
+        for kind in KINDS:
+            self.hold_all(module_views.made_entries(self.module, kind), f"{kind}: ")
+
+    def test_single_files_that_may_have_changed(self):
+        for kind in KINDS:
+            for look in (module_views.single_changes, module_views.options, module_views.modes_that_differ):
+                self.hold_all(look(self.module, kind, self.room()), f"{kind}: ")
 
     def test_sample_of_the_readme(self):
         for kind in KINDS:
@@ -440,15 +374,28 @@ class Module(Python):
                 self.hold(f"{name}: a listing", wanted[0] == 0 and done == wanted)
 
 
+class Packages(Python):
+    """The module as other programs take it."""
+
+    @needs("mypy")
+    def test_types(self):
+        self.hold_all(module_views.typed(self.room(), installed.prefix() / "lib" / "python"))
+
+    def test_installing_a_copy_of_its_folder(self):
+        self.hold_all(installs(self.room()))
+
+
 class Indexes(Python):
     """Indexes of repositories, which are read, changed and committed."""
 
-    def look(self, sort):
+    def look(self, sort, *others):
+        """At a repository of each kind, in turn by each of these checks and some others."""
+        changes = module_edits.sparse_faults if sort is repositories.sparse else module_edits.commits
+        looks = (readings, module_views.members, module_views.equalities, changes, *others, module_views.changes)
         for kind in KINDS:
             folder = repositories.made(self.room(), kind, sort)
-            self.hold_all(readings(self.module, kind, folder), f"{kind}: ")
-            change = sparse_faults if sort is repositories.sparse else commits
-            self.hold_all(change(self.module, kind, folder), f"{kind}: ")
+            for each in looks:
+                self.hold_all(each(self.module, kind, folder), f"{kind}: ")
 
     def look_at_damages(self, sort):
         for kind in KINDS:
@@ -463,10 +410,10 @@ class Indexes(Python):
         self.look_at_damages(repositories.split)
 
     def test_files_alone(self):
-        self.look(repositories.alone)
+        self.look(repositories.alone, module_edits.unstagings, module_edits.extended_flags)
 
     def test_conflicts(self):
-        self.look(repositories.conflicts)
+        self.look(repositories.conflicts, module_edits.sides)
 
     def test_resolved_conflicts(self):
         self.look(repositories.resolved)

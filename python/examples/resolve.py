@@ -1,11 +1,11 @@
 # SPDX-License-Identifier: MIT OR Apache-2.0
-"""Lists the paths in conflict of an index, or settles them in place, under its lock, by one side of the merge.
+"""Lists the paths in conflict of an index, or resolves them in place, under its lock, by one side of the merge.
 
 Usage: resolve.py sha1|sha256 INDEX [base|ours|theirs [PATH..]]
 
-With a side, each PATH in conflict, or else each path that is, is staged as that side has it, or is taken out where the
-side has none. The file in the work tree stays as it is. A line is printed for each path that is in conflict or was
-settled.
+With a side, each PATH in conflict is staged as that side has it, or is removed if the side has none. Without a PATH
+that is each path in conflict. The file in the work tree is unchanged. A line is printed for each path that is in
+conflict or was resolved.
 """
 import os
 import sys
@@ -24,5 +24,5 @@ with Index.lock(file, Kind(kind)) as index:
             index.unstage(path)
     if stage:
         sides = [entry for entry in conflicts if entry.stage == stage]
-        index.stage(*(entry._replace(flags=entry.flags & ~Flags.STAGE_MASK) for entry in sides))
+        index.stage(entry._replace(flags=entry.flags & ~Flags.STAGE_MASK) for entry in sides)
         index.commit()

@@ -3,10 +3,10 @@
 
 Usage: stage.py sha1|sha256 INDEX PATH [ID]
 
-PATH is one from the top of the work tree, where this is to be run, as git lists it. With ID, which `git hash-object -w
-PATH` prints, the file there is staged with its mode and stat (or a submodule, at the commit ID); entries in its way are
-taken out: a conflict, what is below PATH, or a file above it. Without ID, PATH is taken out, and all that is below it;
-the work tree stays as it is. A path in a directory of a sparse index is refused.
+PATH is relative to the top of the work tree, as git lists it. Run this program there. With ID, which `git hash-object
+-w PATH` prints, the file there is staged with its mode and stat (or a submodule, at the commit ID). Entries in its way
+are removed: a conflict, what is below PATH, or a file above it. Without ID, PATH is removed, and all that is below it;
+the work tree is unchanged. A path in a directory of a sparse index is rejected.
 """
 import os
 import sys
@@ -20,5 +20,5 @@ with Index.lock(file, Kind(kind), missing_ok=True) as index:
     if ids:
         index.stage(Entry.of(path, bytes.fromhex(ids[0]), os.lstat(path)))
     else:
-        index.unstage(path)
+        index.unstage(path, recursive=True)
     index.commit()

@@ -10,6 +10,7 @@
         index.unstage("README")
         index.commit()
 
+`Index.stage` adds one entry or many. `Index.changed(os.lstat)` returns the entries whose files may have changed.
 `Index.write_trees` returns the objects that `git write-tree` makes of the entries, with the root as the last.
 
 The index that is replaced is the one that was read under the lock, so no change by git is lost. Version 4 and all

@@ -3,20 +3,28 @@
 from __future__ import annotations
 
 import ctypes
+import operator
 import os
-from typing import Any, Iterator, List, Optional, Sequence, Tuple, Union, overload
+from typing import Iterable, Iterator, List, Optional, Sequence, Tuple, Union, overload
 
+from ._changed import Comparer, Stats, source_of
+from ._edits import entries_in, packed, planned, to_remove
 from ._faults import Status, Text, by_kind, fault_of, file_path, raise_ungiven, raise_unwritten
-from ._library import MARKS, NUMBERS, ROW, STAT, Bytes, Form, Given, Lock, Places, Summary, Table, Time, Tree, Written
+from ._library import ROW, Bytes, Form, Given, Lock, Places, Summary, Table, Time, Tree, Written
 from ._library import at, bytes_at, library
-from ._values import NANOSECONDS, Entry, FilePath, Flags, Kind, Mode, Path, Stat
+from ._rows import Rows, Search, Splice
+from ._values import BY_DEFAULT, NANOSECONDS, Comparison, Entry, FilePath, Kind, Path
 
 
 class Index(Sequence[Entry]):
     """The entries of an index, in the order of its file, as a sequence.
 
     Searches and changes require entries that strictly increase by path, byte by byte, and then by stage, as those of a
-    valid index do. `check` checks whether an index's entries do.
+    valid index do. `check` checks whether an index's entries do. `in` searches for an entry, or for a path at any
+    stage.
+
+    Two indexes are equal if all of their entries are equal, and also their hash algorithm, version, time, checksum and
+    link.
     """
 
     kind: Kind  #: of the ids
@@ -27,8 +35,7 @@ class Index(Sequence[Entry]):
     def __init__(self, kind: Kind = Kind.SHA1) -> None:
         """Makes an index with no entry."""
         self.kind, self.version, self.mtime_ns, self.shared_id = kind, 2, 0, None
-        # (a row is in the layout of C, with the offset of its path in the paths)
-        self._rows, self._paths, self._base, self._is_part = bytearray(), bytearray(), b"", False
+        self._rows, self._base, self._is_part = Rows(), b"", False
 
     @classmethod
     def from_bytes(cls, data: Bytes, kind: Optional[Kind] = None, shared: Optional[Bytes] = None) -> Index:
@@ -70,9 +77,15 @@ class Index(Sequence[Entry]):
 
         - FileExistsError: the lock file exists. Another process writes the index, or died while it did.
         - FileNotFoundError: there is no file at the path. With missing_ok the result is an index with no entry instead.
+        - ValueError: with missing_ok there is no file at the path, and no hash algorithm is given.
+
+        After an exception no lock is held.
         """
         lock = _Held(path)
         try:
+            if kind is None and missing_ok and not lock.at.mode:
+                text = "expected Kind.SHA1 or Kind.SHA256, because there is no index that has it"
+                raise ValueError(f"{lock.path}: kind is None, {text}")
             return by_kind(kind, lambda kind: Locked(lock, kind, missing_ok))
         except BaseException:
             lock.give_up()
@@ -94,7 +107,7 @@ class Index(Sequence[Entry]):
                 rows, paths = bytearray(said.entries * ROW.size), bytearray(said.path_bytes)
         if status != Status.DONE:
             raise fault_of(status, None, said, text.of(said))
-        self._rows, self._paths, self._base = rows, paths, data
+        self._rows, self._base = Rows(rows, paths), data
         self._take(said)
 
     def _fill_from(self, path: FilePath) -> None:
@@ -104,8 +117,8 @@ class Index(Sequence[Entry]):
         try:
             if status != Status.DONE:
                 raise fault_of(status, path, table.said, text.of(table.said))
-            self._rows = bytearray(bytes_at(table.rows, table.said.entries * ROW.size))
-            self._paths = bytearray(bytes_at(table.paths, table.said.path_bytes))
+            rows = bytearray(bytes_at(table.rows, table.said.entries * ROW.size))
+            self._rows = Rows(rows, bytearray(bytes_at(table.paths, table.said.path_bytes)))
             self._base = bytes_at(table.bytes, table.bytes_len)
             self.mtime_ns = table.mtime.tv_sec * NANOSECONDS + table.mtime.tv_nsec
             self._take(table.said)
@@ -117,21 +130,19 @@ class Index(Sequence[Entry]):
         self.version, self._is_part = said.version, bool(said.has_link)
         self.shared_id = shared_id if said.has_link and any(shared_id) else None
 
-    def _table(self) -> Tuple[Any, ...]:
-        return (at(self._rows), len(self), at(self._paths), len(self._paths))
+    @property
+    def checksum(self) -> Optional[bytes]:
+        """Returns the checksum at the end of the bytes that were read, or None if it is zeros or nothing was read."""
+        checksum = self._base[-self.kind.len_in_bytes :]
+        return checksum if any(checksum) else None
 
     # ---- Entries
 
-    def _entry(self, fields: Tuple[Any, ...]) -> Entry:
-        *numbers, mode, flags, _, _, id, start, size = fields
-        path = bytes(self._paths[start : start + size])
-        return Entry(path, id[: self.kind.len_in_bytes], mode, flags, Stat(*numbers))
-
     def __len__(self) -> int:
-        return len(self._rows) // ROW.size
+        return len(self._rows)
 
     def __iter__(self) -> Iterator[Entry]:
-        return map(self._entry, ROW.iter_unpack(bytes(self._rows)))
+        return self._rows.entries(self.kind.len_in_bytes)
 
     @overload
     def __getitem__(self, place: int) -> Entry: ...
@@ -143,10 +154,24 @@ class Index(Sequence[Entry]):
         if isinstance(place, slice):
             return [self[each] for each in range(*place.indices(len(self)))]
         # (a range raises an IndexError for an index that is out of range)
-        return self._entry(ROW.unpack_from(self._rows, range(len(self))[place] * ROW.size))
+        return self._rows.entry(range(len(self))[place], self.kind.len_in_bytes)
 
-    def __repr__(self) -> str:
-        return f"<{type(self).__name__} of {len(self)} entries, {self.kind.value}, version {self.version}>"
+    def __contains__(self, value: object) -> bool:
+        if isinstance(value, Entry):
+            return self.find(value.path, value.stage) == value
+        if isinstance(value, (str, bytes)):
+            name = os.fsencode(value)
+            return self._rows.has_path(Search(self._rows).least(name), name)
+        return super().__contains__(value)
+
+    def __eq__(self, other: object) -> bool:
+        if not isinstance(other, Index):
+            return NotImplemented
+        return self._read() == other._read() and len(self) == len(other) and all(map(operator.eq, self, other))
+
+    def _read(self) -> Tuple[object, ...]:
+        """Returns what was read in addition to the entries."""
+        return self.kind, self.version, self._is_part, self.shared_id, self.checksum, self.mtime_ns
 
     @property
     def entries(self) -> List[Entry]:
@@ -154,15 +179,16 @@ class Index(Sequence[Entry]):
         return list(self)
 
     def find(self, path: Path, stage: int = 0) -> Optional[Entry]:
-        """Returns the entry with the path and the stage, or None."""
-        name = os.fsencode(path)
-        place = library().gix_index_find(*self._table(), name, len(name), stage)
-        return self[place] if place < len(self) else None
+        """Returns the entry with the path and the stage, or None. A stage other than 0 to 3 is a ValueError."""
+        if stage not in range(4):
+            raise ValueError(f"stage is {stage!r}, expected 0 to 3")
+        number = Search(self._rows).find(os.fsencode(path), stage)
+        return None if number is None else self[number]
 
     def prefix(self, prefix: Path) -> List[Entry]:
         """Returns the entries whose path begins with the bytes of the prefix."""
         name, places = os.fsencode(prefix), Places()
-        status = library().gix_index_find_prefix(*self._table(), name, len(name), ctypes.byref(places))
+        status = library().gix_index_find_prefix(*self._rows.words, name, len(name), ctypes.byref(places))
         return self[places.start : places.end] if status == Status.DONE else []
 
     def closest(self, directory: Path, ignore_case: bool = False) -> Optional[Entry]:
@@ -172,69 +198,84 @@ class Index(Sequence[Entry]):
         """
         name = os.fsencode(directory)
         call = library().gix_index_closest_icase if ignore_case else library().gix_index_closest
-        place = call(*self._table(), name, len(name))
+        place = call(*self._rows.words, name, len(name))
         return self[place] if place < len(self) else None
+
+    def changed(
+        self,
+        stats: Stats,
+        comparison: Comparison = BY_DEFAULT,
+        has_symlinks: bool = True,
+        executable_bit: bool = True,
+    ) -> List[Entry]:
+        """Returns the entries whose files may have changed, by their stats.
+
+        A stat is the result of `os.lstat`, or a `Stat`, or None if there is no file. A `Stat` has no mode to compare.
+        The stats are given as one of these:
+
+        - A function of the path, such as `os.lstat`. FileNotFoundError and NotADirectoryError mean that there is no
+          file. The function isn't called for an entry whose stat isn't used.
+        - A mapping from paths. There is no file at a path that isn't in it.
+        - An iterable with a stat for each entry, in their order. Another count is a ValueError.
+
+        The result has an entry if one of these holds:
+
+        - It is in conflict, or only intended to be added.
+        - There is no file, or `Mode.matching` returns another mode than the entry's.
+        - `Stat.matches` is false, or `Stat.is_racy` is true with the time in `mtime_ns`.
+        - Its size is 0, and its id isn't the one of an empty file. git writes this size if the file has to be read.
+
+        The result has no directory of a sparse index. It has an entry with `Flags.ASSUME_VALID` or
+        `Flags.SKIP_WORKTREE` only if it is in conflict. It has a submodule only if there is no directory at its path.
+        """
+        options = (comparison, has_symlinks, executable_bit)
+        comparer = Comparer(self._rows, self.kind, self.mtime_ns, *options)
+        return [self[number] for number in comparer.changed(source_of(stats, len(self)))]
 
     # ---- Changes
 
-    def _place(self, path: bytes, stage: int = 0) -> int:
-        """Returns the number of entries that are less than this path and stage."""
-        return library().gix_index_lower_bound(*self._table(), path, len(path), stage)
+    def _ask_open(self) -> None:
+        """Raises a ValueError if a change would be lost."""
 
-    def _take_out(self, start: int, end: int) -> int:
-        """Removes the entries of a range, which are all that have their paths, and returns how many they were."""
-        del self._rows[start * ROW.size : end * ROW.size]
-        return end - start
+    def _splice(self, splices: List[Splice], removed: List[Tuple[int, int]], rows: bytes) -> int:
+        """Replaces rows, and returns by how many rows the table grew.
 
-    def _put(self, start: int, end: int, row: bytes) -> None:
-        """Replaces the entries of a range by one entry."""
-        self._rows[start * ROW.size : end * ROW.size] = row
-
-    def _cut(self, path: bytes) -> int:
-        """Removes the entries at a path, at each stage, and returns how many they were."""
-        return self._take_out(self._place(path), self._place(path, 4))
-
-    def _directories(self, path: bytes) -> List[bytes]:
-        """Returns the directories above a path. If one is a directory of a sparse index, it raises a ValueError."""
-        ends = [end for end, byte in enumerate(path) if byte == ord("/")]
-        for end in ends:
-            entry = self.find(path[: end + 1])
-            if entry is not None and entry.mode == Mode.DIRECTORY:
-                raise ValueError(f"{os.fsdecode(path)} lies in a directory of a sparse index")
-        return [path[:end] for end in ends]
-
-    def unstage(self, path: Path) -> int:
-        """Removes the entries at a path, in conflict or not, and all below it. Returns how many they were.
-
-        A path in a directory of a sparse index is a ValueError.
+        The ranges that are removed, and the rows that are added, are those that a file has to change.
         """
-        name = os.fsencode(path)
-        self._directories(name)
-        # (0 is the byte after the slash)
-        return self._take_out(self._place(name + b"/"), self._place(name + b"0")) + self._cut(name)
+        return self._rows.splice(splices)
 
-    def stage(self, *entries: Entry) -> None:
-        """Adds entries. Each replaces the entries that are in its way.
+    def unstage(self, path: Path, *, recursive: bool = False) -> int:
+        """Removes the entries at a path, in conflict or not, and with `recursive` all entries below it.
+
+        Returns how many entries were removed: 0 if there are none. A path in a directory of a sparse index is a
+        ValueError.
+        """
+        self._ask_open()
+        ranges = to_remove(Search(self._rows), os.fsencode(path), recursive)
+        return -self._splice([(start, b"", 0, end, b"") for start, end in ranges], ranges, b"")
+
+    def stage(self, *entries: Union[Entry, Iterable[Entry]]) -> None:
+        """Adds entries, given one by one or as iterables. Each replaces the entries that are in its way.
 
         These are the ones with its path and its stage. An entry that isn't in conflict also replaces the ones with its
-        path at each stage, those below it, and those at the directories above it. A path in a directory of a sparse
-        index, and an id with another length than those of the index, are a ValueError.
+        path at each stage, those below it, and those at the directories above it. Many entries are added fastest by one
+        call. With `Flags.INTENT_TO_ADD` or `Flags.SKIP_WORKTREE` an entry gets `Flags.EXTENDED`.
+
+        All entries are checked first, so after an exception the index is unchanged. It raises a ValueError if one of
+        these doesn't hold. The text has the entry, the value and what is expected.
+
+        - A path has at least one byte, and no NUL. It isn't in a directory of a sparse index.
+        - An id has as many bytes as the hash algorithm.
+        - Mode, flags and each number of the stat have 32 bits. The flags aren't those of a path that is to be removed.
+
+        A value of another type is a TypeError. git rejects further values, such as a mode that it doesn't have, or the
+        path `.git`. They are `Refused` when the index is written.
         """
-        for entry in entries:
-            (path, id, mode, flags, seen), stage = entry, entry.stage
-            if len(id) != self.kind.len_in_bytes:
-                raise ValueError(f"an id has {len(id)} bytes, and those of the index have {self.kind.len_in_bytes}")
-            for directory in self._directories(path):
-                if not stage:
-                    self._cut(directory)
-            if stage:
-                start, end = self._place(path, stage), self._place(path, stage + 1)
-            else:
-                self.unstage(path)
-                start = end = self._place(path)
-            row = ROW.pack(*seen, mode, flags, stage, self.kind.number, id, len(self._paths), len(path))
-            self._put(start, end, row)
-            self._paths += path
+        self._ask_open()
+        staged, paths = packed(entries_in(entries), self.kind, len(self._rows.paths))
+        splices, in_the_way, rows = planned(Search(self._rows), staged)
+        self._rows.paths += paths
+        self._splice(splices, in_the_way, rows)
 
     # ---- Writing
 
@@ -259,7 +300,7 @@ class Index(Sequence[Entry]):
         room, status = bytearray(), Status.NO_ROOM
         while status == Status.NO_ROOM:
             room = bytearray(told.bytes)
-            status = call(*self._table(), *over, ctypes.byref(form), at(room), len(room), ctypes.byref(told))
+            status = call(*self._rows.words, *over, ctypes.byref(form), at(room), len(room), ctypes.byref(told))
         raise_unwritten(status, told)
         return bytes(room[: told.bytes])
 
@@ -276,7 +317,7 @@ class Index(Sequence[Entry]):
         while status == Status.NO_ROOM:
             trees, room = (Tree * told.trees)(), bytearray(told.bytes)
             words = (self.kind.number, trees, len(trees), at(room), len(room), ctypes.byref(told))
-            status = library().gix_index_trees(*self._table(), *words)
+            status = library().gix_index_trees(*self._rows.words, *words)
         raise_ungiven(status, told)
         size = self.kind.len_in_bytes
         return [(bytes(it.id)[:size], bytes(room[it.start : it.start + it.len])) for it in trees]
@@ -330,17 +371,20 @@ class Locked(Index):
         """Releases the lock. If it is still held, the index is unchanged, and the lock file is removed."""
         self._lock.give_up()
 
-    def _take_out(self, start: int, end: int) -> int:
-        marked = MARKS.index("flags") + len(STAT)
-        for row in ROW.iter_unpack(bytes(self._rows[start * ROW.size : end * ROW.size])):
-            fields = list(row)
-            fields[marked] |= NUMBERS["GIX_INDEX_REMOVE"]
-            self._changes += ROW.pack(*fields)
-        return super()._take_out(start, end)
+    def _ask_open(self) -> None:
+        if not self._lock.at.is_held:
+            raise ValueError(f"{self.path}: the index isn't locked any more, so a change would be lost")
 
-    def _put(self, start: int, end: int, row: bytes) -> None:
-        self._changes += row
-        super()._put(start, end, row)
+    def _splice(self, splices: List[Splice], removed: List[Tuple[int, int]], rows: bytes) -> int:
+        before = len(self._changes)
+        try:
+            for start, end in removed:
+                self._changes += self._rows.removed(start, end)
+            self._changes += rows
+            return super()._splice(splices, removed, rows)
+        except BaseException:
+            del self._changes[before:]
+            raise
 
     def commit(self, version: Optional[int] = None, skip_hash: bool = False, sync: bool = False) -> None:
         """Replaces the index that is locked, and ends the lock.
@@ -359,7 +403,8 @@ class Locked(Index):
             raise ValueError("the index isn't locked any more")
         if version is None and not skip_hash:
             count = len(self._changes) // ROW.size
-            words = (self.kind.number, at(self._changes), count, at(self._paths), len(self._paths), sync)
+            paths = self._rows.paths
+            words = (self.kind.number, at(self._changes), count, at(paths), len(paths), sync)
             status = library().gix_index_commit_changes(ctypes.byref(self._lock.at), *words, ctypes.byref(told))
             raise_unwritten(status, told, self.path)
         else:
@@ -369,12 +414,13 @@ class Locked(Index):
         """Writes the entries over the index that was read, whichever changes led to them."""
         table = Table()
         # (these names keep the memory alive that the table points to)
-        rows, paths, base = at(self._rows), at(self._paths), ctypes.c_char_p(self._base)
-        table.rows, table.paths = (ctypes.addressof(room) if room else None for room in (rows, paths))
+        rooms = [ctypes.c_char.from_buffer(room) if room else None for room in (self._rows.rows, self._rows.paths)]
+        base = ctypes.c_char_p(self._base)
+        table.rows, table.paths = (None if room is None else ctypes.addressof(room) for room in rooms)
         table.bytes = ctypes.cast(base, ctypes.c_void_p).value if self._base else None
         table.bytes_len = len(self._base)
         table.mtime = Time(*divmod(self.mtime_ns, NANOSECONDS))
-        table.said.entries, table.said.path_bytes = len(self), len(self._paths)
+        table.said.entries, table.said.path_bytes = len(self), len(self._rows.paths)
         words = (ctypes.byref(table), ctypes.byref(form), sync, ctypes.byref(told))
         status = library().gix_index_commit(ctypes.byref(self._lock.at), *words)
         raise_unwritten(status, told, self.path)

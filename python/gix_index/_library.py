@@ -5,9 +5,8 @@ from __future__ import annotations
 import ctypes
 import functools
 import os
-import pathlib
 import struct
-from typing import Any, Optional, Union
+from typing import Any, Iterator, Optional, Union
 
 VERSION = "1.0.0"
 UPSTREAM_VERSION = "0.55.0"
@@ -205,16 +204,26 @@ CALLS = {
 }
 
 
+def _folders() -> Iterator[str]:
+    """Yields the directories in which the library is searched for."""
+    asked = os.environ.get("GIX_INDEX_LIB")
+    if asked:
+        yield asked
+        return
+    folder, before = os.path.dirname(os.path.realpath(__file__)), ""
+    while folder != before:
+        yield folder
+        folder, before = os.path.dirname(folder), folder
+
+
 @functools.lru_cache(maxsize=None)
 def library() -> ctypes.CDLL:
     """Returns the shared library. Its calls preserve errno."""
     major, minor, patch = map(int, VERSION.split("."))
     name = f"libgix_index.so.{major}"
-    asked = os.environ.get("GIX_INDEX_LIB")
-    folders = [pathlib.Path(asked)] if asked else pathlib.Path(__file__).resolve().parents
-    there = next((folder / name for folder in folders if (folder / name).is_file()), name)
+    there = next(filter(os.path.isfile, (os.path.join(folder, name) for folder in _folders())), name)
     try:
-        loaded = ctypes.CDLL(str(there), use_errno=True)
+        loaded = ctypes.CDLL(there, use_errno=True)
     except OSError as error:
         what = f"{error}: `c/install PREFIX` builds it, and GIX_INDEX_LIB may name its folder, PREFIX/lib"
         raise ImportError(what, name="gix_index") from error
@@ -232,7 +241,7 @@ def library() -> ctypes.CDLL:
 def at(data: Bytes) -> Any:
     """Returns a pointer to bytes as an argument, whose length is another argument. C can write to a bytearray."""
     if isinstance(data, bytearray):
-        return (ctypes.c_char * len(data)).from_buffer(data) if data else None
+        return ctypes.byref(ctypes.c_char.from_buffer(data)) if data else None
     return bytes(data)
 
 

@@ -6,14 +6,14 @@ import ctypes
 import enum
 import os
 import stat
-from typing import NamedTuple, Optional, Union
+from typing import TYPE_CHECKING, Dict, NamedTuple, Optional, Union, cast
 
 from ._library import NUMBERS, Row, Seen, library
 from ._library import Comparison as _Comparison
 
 Path = Union[str, bytes]
 FilePath = Union[str, bytes, "os.PathLike[str]", "os.PathLike[bytes]"]
-_UINT32 = 0xFFFFFFFF
+UINT32 = 0xFFFFFFFF
 NANOSECONDS = 1_000_000_000
 
 
@@ -60,7 +60,7 @@ class Mode(enum.IntEnum):
         return cls.LINK if stat.S_ISLNK(seen.st_mode) else cls.COMMIT if stat.S_ISDIR(seen.st_mode) else None
 
     @staticmethod
-    def matching(mode: int, seen: os.stat_result, has_symlinks: bool = True, executable_bit: bool = True) -> int:
+    def matching(mode: int, seen: os.stat_result, has_symlinks: bool = True, executable_bit: bool = True) -> Mode:
         """Returns the mode that an entry has to get to match the result of `os.lstat`. It is its own if they match.
 
         Without has_symlinks a file counts as a link. Without executable_bit a file's mode is unchanged. These are git's
@@ -70,17 +70,39 @@ class Mode(enum.IntEnum):
         # (a link has all bits)
         is_executable = kinds[0] and bool(seen.st_mode & stat.S_IXUSR)
         file = Seen(*kinds, is_executable, has_symlinks, executable_bit)
-        return library().gix_index_mode_for(mode, ctypes.byref(file))
+        return mode_of(library().gix_index_mode_for(mode, ctypes.byref(file)))
 
 
 class Flags(enum.IntFlag):
-    """The flags of an entry. The bits of STAGE_MASK are its stage."""
+    """The flags of an entry. The bits of STAGE_MASK are its stage.
+
+    An entry with INTENT_TO_ADD or SKIP_WORKTREE also has EXTENDED. `Index.stage` sets it.
+    """
 
     STAGE_MASK = NUMBERS["GIX_INDEX_STAGE_MASK"]
     EXTENDED = NUMBERS["GIX_INDEX_EXTENDED"]  #: the file has a second word of flags of the entry
     ASSUME_VALID = NUMBERS["GIX_INDEX_ASSUME_VALID"]  #: the file is taken for unchanged
     INTENT_TO_ADD = NUMBERS["GIX_INDEX_INTENT_TO_ADD"]  #: the path is to be added later
     SKIP_WORKTREE = NUMBERS["GIX_INDEX_SKIP_WORKTREE"]  #: the file isn't wanted in the work tree
+
+
+_MODES = {int(mode): mode for mode in Mode}
+_FLAGS: Dict[int, Flags] = {}
+
+
+def mode_of(number: int) -> Mode:
+    """Returns the mode with this number. What isn't the number of a mode is returned as it is."""
+    return cast(Mode, _MODES.get(number, number))
+
+
+def flags_of(number: int) -> Flags:
+    """Returns the flags with this number. What isn't a number of 32 bits is returned as it is."""
+    found = _FLAGS.get(number)
+    if found is not None:
+        return found
+    if not isinstance(number, int) or not 0 <= number <= UINT32:
+        return cast(Flags, number)
+    return _FLAGS.setdefault(int(number), Flags(number))
 
 
 class Comparison(NamedTuple):
@@ -121,7 +143,7 @@ class Stat(NamedTuple):
         """Returns the stat for the result of `os.lstat`, each number modulo 2 to the 32nd."""
         times = (*divmod(seen.st_ctime_ns, NANOSECONDS), *divmod(seen.st_mtime_ns, NANOSECONDS))
         numbers = (*times, seen.st_dev, seen.st_ino, seen.st_uid, seen.st_gid, seen.st_size)
-        return cls(*(number & _UINT32 for number in numbers))
+        return cls(*(number & UINT32 for number in numbers))
 
     def matches(self, seen: Stat, comparison: Comparison = BY_DEFAULT) -> bool:
         """Returns whether a file with the stat `seen` counts as unchanged, by the numbers that are compared.
@@ -129,7 +151,7 @@ class Stat(NamedTuple):
         A file as new as its index may have changed all the same: see `is_racy`.
         """
         rows = (ctypes.byref(Row(*self)), ctypes.byref(Row(*seen)))
-        return library().gix_index_matches(*rows, ctypes.byref(comparison.told))
+        return bool(library().gix_index_matches(*rows, ctypes.byref(comparison.told)))
 
     def is_racy(self, mtime_ns: int, comparison: Comparison = BY_DEFAULT) -> bool:
         """Returns whether the file may have changed when an index with this time was written, or later.
@@ -137,22 +159,39 @@ class Stat(NamedTuple):
         Then its stat proves nothing. The time is `Index.mtime_ns`.
         """
         time = divmod(mtime_ns, NANOSECONDS)
-        return library().gix_index_is_racy(ctypes.byref(Row(*self)), *time, ctypes.byref(comparison.told))
+        return bool(library().gix_index_is_racy(ctypes.byref(Row(*self)), *time, ctypes.byref(comparison.told)))
 
 
-class Entry(NamedTuple):
-    """An entry of an index."""
-
+class _Entry(NamedTuple):
     path: bytes
     id: bytes  #: of the object that holds the contents: 20 or 32 bytes
-    mode: int = Mode.FILE  #: one of those of `Mode`
-    flags: int = 0  #: those of `Flags`, the stage among them, and others that live in memory alone
-    stat: Stat = Stat()
+    mode: Mode
+    flags: Flags  #: the stage among them, and others that are only in memory
+    stat: Stat
+
+
+class Entry(_Entry):
+    """An entry of an index. A path that is a str is encoded as by `os.fsencode`.
+
+    A mode that git doesn't have stays an int.
+    """
+
+    __slots__ = ()
+
+    def __new__(
+        cls, path: Path, id: bytes, mode: int = Mode.FILE, flags: int = Flags(0), stat: Stat = Stat()
+    ) -> Entry:
+        name = path if isinstance(path, bytes) else os.fsencode(path)
+        return tuple.__new__(cls, (name, id, mode_of(mode), flags_of(flags), stat))
+
+    if TYPE_CHECKING:
+        # (the strict rules of mypy allow `path in index` only if entries have this method)
+        def __eq__(self, other: object) -> bool: ...
 
     @property
     def stage(self) -> int:
         """Returns 0, or in a conflict 1 for the common ancestor, 2 for our side, 3 for theirs."""
-        return (self.flags & Flags.STAGE_MASK) >> 12
+        return self.flags >> 12 & 3
 
     @classmethod
     def of(cls, path: Path, id: bytes, seen: os.stat_result) -> Entry:
@@ -160,7 +199,7 @@ class Entry(NamedTuple):
         mode = Mode.of(seen)
         if mode is None:
             raise ValueError(f"{os.fsdecode(path)} is a device, a fifo or a socket, which no index has")
-        return cls(os.fsencode(path), id, mode, 0, Stat.of(seen))
+        return cls(path, id, mode, 0, Stat.of(seen))
 
 
 class Error(Exception):
