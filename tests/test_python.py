@@ -101,6 +101,11 @@ def names(room):
 # ---- What is read
 
 
+def with_other_end(data):
+    """Bytes that end with another byte than these."""
+    return data[:-1] + bytes((data[-1] ^ 1,))
+
+
 def debugged(index):
     """An index as `git ls-files --debug --sparse` shows it, of paths that aren't quoted."""
     for path, _, _, flags, at in index:
@@ -199,7 +204,8 @@ def readings(module, kind, folder):
     yield "its link", (own.shared_id is not None) == (shared is not None)
     if shared is not None:
         yield "a part isn't written", is_raised(ValueError, own.to_bytes)
-        yield "another shared index", is_raised(module.Refused, module.Index.from_bytes, data, None, shared[:-1] + b"x")
+        words = (data, None, with_other_end(shared))
+        yield "another shared index", is_raised(module.Refused, module.Index.from_bytes, *words)
     yield from searches(index)
     for version in (None, 2, 4):
         again = module.Index.from_bytes(index.to_bytes(version))
@@ -256,7 +262,7 @@ def faults(module, kind, room):
 def samples(room, folder):
     """What is looked at of the README's sample."""
     index, changed = index_in(folder), room / "damaged.index"
-    changed.write_bytes(index.read_bytes()[:-1] + b"x")
+    changed.write_bytes(with_other_end(index.read_bytes()))
     id = git(folder, "rev-parse", ":docs/file-3.txt")
     sample = installed.in_python("sample")
     yield "the sample's id", answer((sample, index, "docs/file-3.txt")) == (0, id, b"")
