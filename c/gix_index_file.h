@@ -21,7 +21,7 @@
 
 #include "gix_index_table.h"
 
-/* C has no other casts. */
+/* The code below has C casts. Without these lines some compilers for C++ warn about them. */
 #if defined __cplusplus && defined __GNUC__
 #pragma GCC diagnostic push
 #pragma GCC diagnostic ignored "-Wold-style-cast"

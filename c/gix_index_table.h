@@ -18,7 +18,7 @@
 #include <time.h>
 #include <unistd.h>
 
-/* C has no other casts. */
+/* The code below has C casts. Without these lines some compilers for C++ warn about them. */
 #if defined __cplusplus && defined __GNUC__
 #pragma GCC diagnostic push
 #pragma GCC diagnostic ignored "-Wold-style-cast"

@@ -54,7 +54,7 @@ class Headers(Case):
         source = self.room() / "source"
         for what, text in (*sources(), *(sources_in_c() if language == "c" else ())):
             source.write_text(text, encoding="utf-8")
-            # (the caller is C, which has no other casts)
+            # (the caller is C code, and has C casts)
             casts = ("-Wold-style-cast",) if language == "c++" and what != CALLER.name else ()
             status, out, faults = answer((*words, *WARNINGS, *casts, source))
             self.hold(f"{name}: {what}: {(out + faults).decode()}", (status, out + faults) == (0, b""))

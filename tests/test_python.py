@@ -102,7 +102,7 @@ def names(room):
 
 
 def with_other_end(data):
-    """Bytes that end with another byte than these."""
+    """Returns the bytes with another last byte."""
     return data[:-1] + bytes((data[-1] ^ 1,))
 
 
